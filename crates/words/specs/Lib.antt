@@ -1,0 +1,4 @@
+pub mod Endian
+pub mod Size
+pub mod Word
+pub mod Xor
