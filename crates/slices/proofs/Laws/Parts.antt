@@ -1,0 +1,19 @@
+-- Parts of a list.
+--
+-- In order: part-tail (the part from a place to the end, as it is lent), take-min (as many as there are).
+-- Assumes nothing.
+use mathlib.Core.Path.{_≡_, refl, ap}
+use mathlib.Core.List.{List, [], _∷_}
+use Prim.Native.Nat.{ℕ, zero, suc, _-_, min}
+use native.Mathlib.Nat.{zero-min, min-zero, suc-min-suc}
+use native.Mathlib.Omega.{arith}
+use lib.ListN.{length, take, drop, length-drop}
+use lib.Seq.{take-all}
+
+pub part-tail : (at : ℕ) (s : List ℕ) → take (length s - at) (drop at s) ≡ drop at s
+part-tail at s = take-all (length s - at) (drop at s) (simp length-drop (omega arith))
+
+pub take-min : (n : ℕ) (s : List ℕ) → take (min n (length s)) s ≡ take n s
+take-min zero s = rw zero-min
+take-min (suc n) [] = rw min-zero
+take-min (suc n) (x ∷ s) = rw suc-min-suc (ap (λ (l : List ℕ). x ∷ l) (take-min n s))

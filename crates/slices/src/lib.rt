@@ -1,0 +1,58 @@
+// Slices of bytes: copying into a lent one, comparing two, zeroing.
+//
+// The contracts cite specs/Over (what stands in a lent slice after a writing) and specs/Same. Every function answers every
+// input: a copy takes as many bytes as there is room for, and slices of two lengths differ.
+ghost use mathlib.Core.Path.{_≡_};
+ghost use Prim.Native.Nat.{min};
+ghost use lib.ListN.{length, take, replicate};
+ghost use Rattle.slices.specs.Over.{over};
+ghost use Rattle.slices.specs.Same.{same as sameLists};
+
+// The lesser of two numbers.
+fn least(a: usize, b: usize) -> usize
+    ensures { λ r. ⌜ r ≡ min a b ⌝ }
+{
+    if a < b {
+        return a;
+    }
+    b
+}
+
+// Copies the bytes of `s` over the front of `out`, as many as there is room for.
+pub fn copy(out: &mut [u8], s: &[u8])
+    ensures { λ _. ⌜ now (out .exit) ≡ over (take (length (now (out .entry))) (now (s .entry))) (now (out .entry)) ⌝ }
+{
+    let n = least(out.len(), s.len());
+    let mut i: usize = 0;
+    while i < n {
+        out[i] = s[i];
+        i += 1;
+    }
+}
+
+// Whether two slices are equal. Every byte is looked at, whichever of them differ: only the lengths tell in the time taken.
+pub fn same(a: &[u8], b: &[u8]) -> bool
+    ensures { λ r. ⌜ r ≡ sameLists (now (a .entry)) (now (b .entry)) ⌝ }
+{
+    if a.len() != b.len() {
+        return false;
+    }
+    let mut d: u8 = 0;
+    let mut i: usize = 0;
+    while i < a.len() {
+        d = d | (a[i] ^ b[i]);
+        i += 1;
+    }
+    d == 0
+}
+
+// Sets every byte to zero.
+pub fn zero(out: &mut [u8])
+    ensures { λ _. ⌜ now (out .exit) ≡ replicate (length (now (out .entry))) 0 ⌝ }
+{
+    let mut i: usize = 0;
+    while i < out.len() {
+        out[i] = 0;
+        i += 1;
+    }
+}
