@@ -1,0 +1,3 @@
+-- Laws of the limits and of the refusal numbers.
+pub mod Limits
+pub mod Numbers

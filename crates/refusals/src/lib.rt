@@ -1,0 +1,97 @@
+// The refusal numbers and the limits of the terminal, each once (document 01, "Refusal numbers" and "Numbers of the terminal").
+//
+// An operation answers an `Outcome`, or an enum of its own with a case for a `Refusal`; what number a refusal has is said here
+// alone. The contracts cite specs/Numbers and specs/Limits.
+ghost use mathlib.Core.Path.{_≡_};
+ghost use Rattle.refusals.specs.Numbers as numbers;
+
+pub mod limits;
+
+// Why an operation refuses, in the order of the numbers.
+pub enum Refusal {
+    // 1: an input, file to be written or message is over its limit
+    TooLong,
+    // 2: the file or payload ends inside a part
+    CutShort,
+    // 3: a signature differs
+    WrongSignature,
+    // 4: the version is not 4.0 or 4.1
+    WrongVersion,
+    // 5: a size is negative or wrong for its field; end bytes differ
+    WrongSize,
+    // 6: a header field, or a name in one dictionary, is repeated
+    Repeated,
+    // 7: the field ID is not listed
+    UnknownField,
+    // 8: a required field is absent at the end field, or an attachment index is past the last
+    Absent,
+    // 9: the cipher, compression, KDF or inner algorithm is not listed
+    Unlisted,
+    // 10: a dictionary is broken, or a KDF item is absent or of wrong type or size
+    BrokenDictionary,
+    // 11: the rounds are above the limit
+    TooManyRounds,
+    // 12: the header hash differs
+    HeaderHash,
+    // 13: the header tag differs: wrong key, or a changed header
+    HeaderTag,
+    // 14: a block tag differs
+    BlockTag,
+    // 15: bytes stand after the closing block
+    TrailingBytes,
+    // 16: the AES ciphertext's length is 0 or no multiple of 16, or the padding is wrong
+    WrongPadding,
+    // 17: the lent output is shorter than the bytes due
+    NoRoom,
+    // 18: no credential; a pre-hash that is not 32 bytes, or given with another
+    WrongCredential,
+    // 19: a step after an opener's end or after a refusal that closed it; the key asked for too early
+    OutOfSequence,
+}
+
+// The answer of an operation that has nothing else to say.
+pub enum Outcome {
+    Accepted,
+    Refused(Refusal),
+}
+
+impl Refusal {
+    // The refusal's number.
+    pub fn number(self) -> u8
+        ensures { λ r. ⌜ r ≡ numbers.ofRefusal self ⌝ }
+    {
+        match self {
+            Refusal::TooLong => 1,
+            Refusal::CutShort => 2,
+            Refusal::WrongSignature => 3,
+            Refusal::WrongVersion => 4,
+            Refusal::WrongSize => 5,
+            Refusal::Repeated => 6,
+            Refusal::UnknownField => 7,
+            Refusal::Absent => 8,
+            Refusal::Unlisted => 9,
+            Refusal::BrokenDictionary => 10,
+            Refusal::TooManyRounds => 11,
+            Refusal::HeaderHash => 12,
+            Refusal::HeaderTag => 13,
+            Refusal::BlockTag => 14,
+            Refusal::TrailingBytes => 15,
+            Refusal::WrongPadding => 16,
+            Refusal::NoRoom => 17,
+            Refusal::WrongCredential => 18,
+            Refusal::OutOfSequence => 19,
+        }
+    }
+}
+
+impl Outcome {
+    // The outcome's number: 0 is success.
+    pub fn number(self) -> u8
+        ensures { λ r. ⌜ r ≡ numbers.ofOutcome self ⌝ }
+    {
+        match self {
+            Outcome::Accepted => 0,
+            Outcome::Refused(r) => r.number(),
+        }
+    }
+}
