@@ -8,8 +8,8 @@
 --   over-more                          one byte more of a list
 --   over-sets                          stores one after the other
 --   over-tail                          a tail lent to a writer, and back
---   over-behind                        the same behind the list's own front
 --   over-fits                          a copy that has room
+--   over-behind, over-behind-fits      a copy behind the list's own front
 -- Assumes nothing.
 use mathlib.Core.Path.{_≡_, refl, sym, ap, _∙_}
 use mathlib.Core.List.{List, [], _∷_, _++_, append-assoc, append-nil}
@@ -86,12 +86,20 @@ over-tail w b d xs ys at k x e l f g =
 pub over-fits : (b d : List ℕ) → length b ≤ length d → over (take (length d) b) d ≡ over b d
 over-fits b d h = ap (λ (w : List ℕ). over w d) (take-all (length d) b h)
 
--- a copy to the tail of d from `at` on, with room: it stands behind d's own first bytes
-pub over-behind : (b d ys : List ℕ) (at k : ℕ) → at + length b ≤ length d → k ≡ length d - at
-    → ys ≡ over (take (length (take k (drop at d))) b) (take k (drop at d))
-    → take at d ++ (ys ++ drop k (drop at d)) ≡ over (take at d ++ b) d
-over-behind b d ys at k h e g =
-    let a : at ≤ length d = omega arith in
+-- a copy of s to the tail of d from `at` on: as much of it as there is room for stands behind d's own first bytes
+pub over-behind : (s d ys : List ℕ) (at k : ℕ) → at ≤ length d → k ≡ length d - at
+    → ys ≡ over (take (length (take k (drop at d))) s) (take k (drop at d))
+    → take at d ++ (ys ++ drop k (drop at d)) ≡ over (take at d ++ take k s) d
+over-behind s d ys at k a e g =
     let r : length (take k (drop at d)) ≡ k = length-take-le k (drop at d) (simp length-drop (omega arith)) in
-    let f : length b ≤ length (take k (drop at d)) = omega arith in
-    over-tail (take at d) b d d ys at k (sym (over-own at d a)) (length-take-le at d a) a e (g ∙ over-fits b (take k (drop at d)) f)
+    let f : ys ≡ over (take k s) (take k (drop at d)) = g ∙ ap (λ (n : ℕ). over (take n s) (take k (drop at d))) r in
+    over-tail (take at d) (take k s) d d ys at k (sym (over-own at d a)) (length-take-le at d a) a e f
+
+-- .. and all of it where it fits
+pub over-behind-fits : (s d ys : List ℕ) (at k : ℕ) → at + length s ≤ length d → k ≡ length d - at
+    → ys ≡ over (take (length (take k (drop at d))) s) (take k (drop at d))
+    → take at d ++ (ys ++ drop k (drop at d)) ≡ over (take at d ++ s) d
+over-behind-fits s d ys at k h e g =
+    let a : at ≤ length d = omega arith in
+    let f : length s ≤ k = omega arith in
+    over-behind s d ys at k a e g ∙ ap (λ (w : List ℕ). over (take at d ++ w) d) (take-all k s f)

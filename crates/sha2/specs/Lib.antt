@@ -1,0 +1,4 @@
+pub mod Fips180
+pub mod Unrolled
+pub mod Hashing
+pub mod Feeds
