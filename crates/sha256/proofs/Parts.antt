@@ -1,0 +1,29 @@
+-- The theorem of SHA-256 in parts: a finish after any list of feeds is FIPS 180-4's hash of the accepted parts joined.
+--
+-- It is over the definitions that the contracts of `start`, `feed` and `finish` equate the code with, so it holds of the code.
+-- In order: held-feeds, sha256-of-parts (whichever are refused), sha256-of-joined (within the limit).
+-- Assumes nothing.
+use mathlib.Core.Path.{_≡_, refl, ap, _∙_}
+use mathlib.Core.List.{List, [], _∷_}
+use Prim.Native.Nat.{ℕ, _≤_}
+use native.Mathlib.Omega.{arith}
+use lib.ListN.{length}
+use Rattle.refusals.specs.Limits.{messageLimit}
+use Rattle.sha2.specs.Fips180.{sha256, hash}
+use Rattle.sha2.specs.Hashing as hashing
+use Rattle.sha2.specs.Feeds as generic
+use Rattle.sha2.specs.Feeds.{accepted, joined}
+use Rattle.sha2.proofs.Laws.Feeds.{feeds-hash, feeds-hash-all}
+use Rattle.sha256.specs.declared.Sha256.{Sha256}
+use Rattle.sha256.specs.State.{held, started, finished, feeds}
+
+pub held-feeds : (ss : List (List ℕ)) (h : Sha256) → held (feeds h ss) ≡ generic.feeds sha256 messageLimit (held h) ss
+unfolding feeds generic.feeds
+held-feeds [] h = refl
+held-feeds (s ∷ ss) h = held-feeds ss _
+
+pub sha256-of-parts : (ss : List (List ℕ)) → finished (feeds started ss) ≡ hash sha256 (accepted messageLimit 0 ss)
+sha256-of-parts ss = ap (hashing.finish sha256) (held-feeds ss started) ∙ feeds-hash sha256 (omega arith) messageLimit ss
+
+pub sha256-of-joined : (ss : List (List ℕ)) → length (joined ss) ≤ messageLimit → finished (feeds started ss) ≡ hash sha256 (joined ss)
+sha256-of-joined ss l = ap (hashing.finish sha256) (held-feeds ss started) ∙ feeds-hash-all sha256 (omega arith) messageLimit ss l
