@@ -1,13 +1,13 @@
 -- The theorem of SHA-256 in parts: a finish after any list of feeds is FIPS 180-4's hash of the accepted parts joined.
 --
 -- It is over the definitions that the contracts of `start`, `feed` and `finish` equate the code with, so it holds of the code.
--- In order: held-feeds, sha256-of-parts (whichever are refused), sha256-of-joined (within the limit).
+-- In order: held-feeds, sha256-of-parts (whichever are refused), sha256-of-joined (within the limit), sha256-of-two, sha256-of-three.
 -- Assumes nothing.
 use mathlib.Core.Path.{_≡_, refl, ap, _∙_}
-use mathlib.Core.List.{List, [], _∷_}
-use Prim.Native.Nat.{ℕ, _≤_}
+use mathlib.Core.List.{List, [], _∷_, _++_, append-nil}
+use Prim.Native.Nat.{ℕ, _+_, _≤_}
 use native.Mathlib.Omega.{arith}
-use lib.ListN.{length}
+use lib.ListN.{length, length-append}
 use Rattle.refusals.specs.Limits.{messageLimit}
 use Rattle.sha2.specs.Fips180.{sha256, hash}
 use Rattle.sha2.specs.Hashing as hashing
@@ -15,7 +15,7 @@ use Rattle.sha2.specs.Feeds as generic
 use Rattle.sha2.specs.Feeds.{accepted, joined}
 use Rattle.sha2.proofs.Laws.Feeds.{feeds-hash, feeds-hash-all}
 use Rattle.sha256.specs.declared.Sha256.{Sha256}
-use Rattle.sha256.specs.State.{held, started, finished, feeds}
+use Rattle.sha256.specs.State.{held, started, fed, finished, feeds}
 
 pub held-feeds : (ss : List (List ℕ)) (h : Sha256) → held (feeds h ss) ≡ generic.feeds sha256 messageLimit (held h) ss
 unfolding feeds generic.feeds
@@ -27,3 +27,18 @@ sha256-of-parts ss = ap (hashing.finish sha256) (held-feeds ss started) ∙ feed
 
 pub sha256-of-joined : (ss : List (List ℕ)) → length (joined ss) ≤ messageLimit → finished (feeds started ss) ≡ hash sha256 (joined ss)
 sha256-of-joined ss l = ap (hashing.finish sha256) (held-feeds ss started) ∙ feeds-hash-all sha256 (omega arith) messageLimit ss l
+
+-- two parts, and three, as callers feed them
+pub sha256-of-two : (a b : List ℕ) → length a + length b ≤ messageLimit
+    → finished (fed (fed started a .next) b .next) ≡ hash sha256 (a ++ b)
+unfolding feeds joined
+sha256-of-two a b l =
+    let j : length (joined (a ∷ b ∷ [])) ≤ messageLimit = simp (append-nil, length-append) l in
+    sha256-of-joined (a ∷ b ∷ []) j ∙ ap (λ (t : List ℕ). hash sha256 (a ++ t)) (append-nil b)
+
+pub sha256-of-three : (a b c : List ℕ) → length a + (length b + length c) ≤ messageLimit
+    → finished (fed (fed (fed started a .next) b .next) c .next) ≡ hash sha256 (a ++ (b ++ c))
+unfolding feeds joined
+sha256-of-three a b c l =
+    let j : length (joined (a ∷ b ∷ c ∷ [])) ≤ messageLimit = simp (append-nil, length-append) l in
+    sha256-of-joined (a ∷ b ∷ c ∷ []) j ∙ ap (λ (t : List ℕ). hash sha256 (a ++ (b ++ t))) (append-nil c)

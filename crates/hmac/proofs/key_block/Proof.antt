@@ -1,15 +1,11 @@
 -- `hmac::key_block` meets its contract. Assumes nothing.
 use mathlib.Core.Path.{_≡_, refl, ap, _∙_}
-use mathlib.Core.List.{List}
-use Prim.Native.Nat.{ℕ, _≤_, _<_}
 use native.Mathlib.Omega.{arith}
 use denote.Ref.{now}
 use lib.ListN.{length}
-use borrow.Author.Tests.{le-leb}
-use Rattle.refusals.specs.Limits.{messageLimit}
 use Rattle.sha2.specs.Fips180.{sha256, hash}
 use Rattle.sha2.specs.Fips180.Constants.{iv256}
-use Rattle.sha2.specs.Hashing.{hashed}
+use Rattle.sha2.proofs.Laws.Feeds.{hashed-digest}
 use Rattle.sha256.specs.declared.Hashed.{Hashed}
 use Rattle.hmac.proofs.Laws.{keyBlock-short, keyBlock-long}
 use borrow.Author.Needs.{needs}
@@ -19,11 +15,6 @@ use Rattle.hmac.proofs.key_block.Tie as tie
 words : length iv256 ≡ 8
 unfolding iv256
 words = refl
-
--- a key within the limit has the standard's digest
-hashed-digest : (k : List ℕ) → length k ≤ messageLimit → hashed sha256 k .digest ≡ hash sha256 k
-unfolding hashed
-hashed-digest k l = rw (le-leb _ _ l)
 
 returns : tie.Need-returns
 returns c =
@@ -35,7 +26,7 @@ returns-2 c =
     let at-hash = c .before .before .before .before .before in
     let st = at-hash .before .before .before in
     let k = now (st .args .key) in
-    let e : at-hash .hash .result .digest ≡ hash sha256 k = ap (λ (h : Hashed). h .digest) (at-hash .hash .ensures) ∙ hashed-digest k (st .pre) in
+    let e : at-hash .hash .result .digest ≡ hash sha256 k = ap (λ (h : Hashed). h .digest) (at-hash .hash .ensures) ∙ hashed-digest sha256 k (st .pre) in
     keyBlock-long sha256 words k (omega arith) e (c .before .copy2 .ensures)
 
 pub key-block-spec : {M : Type 1} → statement M

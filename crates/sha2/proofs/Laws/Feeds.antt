@@ -5,6 +5,7 @@
 --   feeds-holds, feeds-hash        the theorem
 --   accepted-all, feeds-hash-all   within the limit nothing is refused
 --   start-taken, hash-is           one feed of a whole message
+--   hashed-digest                  the one-call form's digest, within the limit
 --   accepted-shift                 a limit that leaves out what was fed before
 -- Assumes nothing.
 use mathlib.Core.Path.{_≡_, refl, ap, _∙_}
@@ -16,7 +17,8 @@ use lib.ListN.{length, length-append}
 use borrow.Author.Tests.{le-leb, lt-leb, leb-true, leb-false}
 use Rattle.words.proofs.Laws.Cases.{by-bool}
 use Rattle.sha2.specs.Fips180.{Sha2, blockBytes, hash}
-use Rattle.sha2.specs.Hashing.{Hashing, start, absorbed, feedTo, finish}
+use Rattle.refusals.specs.Limits.{messageLimit}
+use Rattle.sha2.specs.Hashing.{Hashing, start, absorbed, feedTo, finish, hashed}
 use Rattle.sha2.specs.Feeds.{feeds, accepted, joined}
 use Rattle.sha2.proofs.Laws.Feeding.{Holds, start-holds, absorbed-holds, finish-holds}
 
@@ -67,6 +69,10 @@ start-taken p limit m l = feed-taken p limit (start p) m (omega arith)
 pub hash-is : (p : Sha2) → 0 < blockBytes p → (limit : ℕ) (m : List ℕ) → length m ≤ limit → finish p (feedTo p limit (start p) m .next) ≡ hash p m
 hash-is p pos limit m l =
     ap (finish p) (start-taken p limit m l) ∙ finish-holds p pos (absorbed p (start p) m) m (absorbed-holds p pos (start p) [] m (start-holds p pos))
+
+pub hashed-digest : (p : Sha2) (m : List ℕ) → length m ≤ messageLimit → hashed p m .digest ≡ hash p m
+unfolding hashed
+hashed-digest p m l = rw (le-leb _ _ l)
 
 -- the parts accepted do not change where the limit and the bytes that came before grow alike
 pub accepted-shift : (b limit n : ℕ) (ss : List (List ℕ)) → accepted (limit + b) (n + b) ss ≡ accepted limit n ss

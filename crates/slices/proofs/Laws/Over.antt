@@ -8,7 +8,7 @@
 --   over-more                          one byte more of a list
 --   over-sets                          stores one after the other
 --   over-tail                          a tail lent to a writer, and back
---   over-fits                          a copy that has room
+--   over-fits, over-whole              a copy that has room, and one that fills all
 --   over-behind, over-behind-fits      a copy behind the list's own front
 -- Assumes nothing.
 use mathlib.Core.Path.{_≡_, refl, sym, ap, _∙_}
@@ -85,6 +85,13 @@ over-tail w b d xs ys at k x e l f g =
 -- a copy that has room is whole
 pub over-fits : (b d : List ℕ) → length b ≤ length d → over (take (length d) b) d ≡ over b d
 over-fits b d h = ap (λ (w : List ℕ). over w d) (take-all (length d) b h)
+
+-- a copy that fills all
+pub over-whole : (b d : List ℕ) → length b ≡ length d → over (take (length d) b) d ≡ b
+over-whole b d e =
+    let h : length b ≤ length d = omega arith in
+    let k : length d ≤ length b = omega arith in
+    over-fits b d h ∙ over-all b d k
 
 -- a copy of s to the tail of d from `at` on: as much of it as there is room for stands behind d's own first bytes
 pub over-behind : (s d ys : List ℕ) (at k : ℕ) → at ≤ length d → k ≡ length d - at
