@@ -1,0 +1,2 @@
+pub mod Kdbx4Keys
+pub mod State
