@@ -6,10 +6,12 @@
 --   Xors      the same of lists, element by element
 --   Endian    numbers and their bytes
 --   XorBytes  the bytes of an exclusive or are those of its parts
+--   Bytes     lists of bytes
 --   Tests     a rule over all bytes, by one test that is computed
 pub mod Cases
 pub mod Xor
 pub mod Xors
 pub mod Endian
 pub mod XorBytes
+pub mod Bytes
 pub mod Tests
