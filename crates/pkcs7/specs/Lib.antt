@@ -1,0 +1,2 @@
+pub mod Pkcs7
+pub mod Answer
