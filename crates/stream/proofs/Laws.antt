@@ -1,0 +1,9 @@
+-- Laws of key streams, over any block function.
+--
+-- In order:
+--   Keystream  the stream's bytes, cut and within a block
+--   Apply      the theorems: applied twice, cut in two, length kept, bytes stay bytes
+--   Turns      a loop that applies a block a turn
+pub mod Keystream
+pub mod Apply
+pub mod Turns
