@@ -1,0 +1,2 @@
+pub mod Rfc8439
+pub mod State
