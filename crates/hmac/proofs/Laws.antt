@@ -72,7 +72,8 @@ module _ (p : Sha2) (words : length (p .iv) ≡ 8) where
   keyBlock-long k {b} {d} l e₁ e₂ =
       let z : length (replicate {A = ℕ} (blockBytes p) 0) ≡ blockBytes p = length-replicate (blockBytes p) 0 in
       let n : length d ≡ 8 * p .bytes = ap length e₁ ∙ length-hash p k words in
-      rw (lt-leb _ _ l) (e₂ ∙ over-fits d (replicate (blockBytes p) 0) (omega arith) ∙ ap (λ (x : List ℕ). over x (replicate (blockBytes p) 0)) e₁)
+      rw (lt-leb _ _ l) (e₂ ∙ over-fits d (replicate (blockBytes p) 0) (omega arith)
+      ∙ ap (λ (x : List ℕ). over x (replicate (blockBytes p) 0)) e₁)
 
 -- .. and of a short one, as code copies the key
 pub keyBlock-short : (p : Sha2) (k : List ℕ) {b : List ℕ} → length k ≤ blockBytes p
@@ -84,13 +85,23 @@ keyBlock-short p k l e =
 
 module _ (p : Sha2) (pos : 0 < blockBytes p) where
   -- a start's parts, as code makes them
-  pub begun-is : {i o : List ℕ} {n m : Hashing} (b : List ℕ) → i ≡ xorEach 0x36 b → o ≡ xorEach 0x5c b → length i ≤ messageLimit → length o ≤ messageLimit
+  pub begun-is : {i o : List ℕ} {n m : Hashing} (b : List ℕ) → i ≡ xorEach 0x36 b → o ≡ xorEach 0x5c b
+      → length i ≤ messageLimit → length o ≤ messageLimit
       → n ≡ hashing.feed p (hashing.start p) i .next → m ≡ hashing.feed p (hashing.start p) o .next
       → _≡_ {A = Tagging} (record { inner = n; outer = m }) (begun p b)
   unfolding begun
-  begun-is {i} {o} b e₁ e₂ l₁ l₂ e₃ e₄ = cc (e₁, e₂, e₃, e₄, start-taken p messageLimit i l₁, start-taken p messageLimit o l₂)
+  begun-is {i} {o} b e₁ e₂ l₁ l₂ e₃ e₄ = cc (
+    e₁,
+    e₂,
+    e₃,
+    e₄,
+    start-taken p messageLimit i l₁,
+    start-taken p messageLimit
+        o l₂,
+  )
 
-  inner-feeds : (ss : List (List ℕ)) (t : Tagging) → feeds p t ss .inner ≡ hashFeeds.feeds p (messageLimit + blockBytes p) (t .inner) ss
+  inner-feeds : (ss : List (List ℕ)) (t : Tagging) → feeds p t ss .inner
+      ≡ hashFeeds.feeds p (messageLimit + blockBytes p) (t .inner) ss
   unfolding feeds feed hashFeeds.feeds
   inner-feeds [] t = refl
   inner-feeds (s ∷ ss) t = inner-feeds ss (feed p t s .next)
@@ -112,30 +123,42 @@ module _ (p : Sha2) (pos : 0 < blockBytes p) where
   module _ (b : List ℕ) (e : length b ≡ blockBytes p) (ss : List (List ℕ)) where
     shifted : accepted (messageLimit + blockBytes p) (length (xorEach 0x36 b)) ss ≡ accepted messageLimit 0 ss
     shifted =
-        let n : length (xorEach 0x36 b) ≡ 0 + blockBytes p = length-xorEach 0x36 b ∙ e ∙ sym (zero-add (blockBytes p)) in
+        let n : length (xorEach 0x36 b) ≡ 0 + blockBytes p = length-xorEach 0x36 b ∙ e
+        ∙ sym (zero-add (blockBytes p)) in
         ap (λ (m : ℕ). accepted (messageLimit + blockBytes p) m ss) n ∙ accepted-shift (blockBytes p) messageLimit 0 ss
 
-    inner-hash : hashing.finish p (feeds p (begun p b) ss .inner) ≡ hash p (xorEach 0x36 b ++ accepted messageLimit 0 ss)
+    inner-hash : hashing.finish p (feeds p (begun p b) ss .inner)
+        ≡ hash p (xorEach 0x36 b ++ accepted messageLimit 0 ss)
     inner-hash =
         ap (hashing.finish p) (inner-feeds ss (begun p b))
-        ∙ finish-holds p pos _ _ (feeds-holds p pos (messageLimit + blockBytes p) ss (begun p b .inner) (xorEach 0x36 b) (begun-inner b))
+        ∙ finish-holds p pos _ _ (feeds-holds p pos (messageLimit + blockBytes p) ss (begun p b .inner) (xorEach 0x36 b)
+        (begun-inner b))
         ∙ ap (λ (m : List ℕ). hash p (xorEach 0x36 b ++ m)) shifted
 
     -- the theorem, of a key block; a block and a digest are a message
     pub tag-hash : length (p .iv) ≡ 8 → blockBytes p + 8 * p .bytes ≤ messageLimit
-        → finish p (feeds p (begun p b) ss) ≡ hash p (xorEach 0x5c b ++ hash p (xorEach 0x36 b ++ accepted messageLimit 0 ss))
+        → finish p (feeds p (begun p b) ss)
+        ≡ hash p (xorEach 0x5c b ++ hash p (xorEach 0x36 b ++ accepted messageLimit 0 ss))
     unfolding finish
     tag-hash words room =
         let d : List ℕ = hash p (xorEach 0x36 b ++ accepted messageLimit 0 ss) in
         let o = begun-outer b in
-        let fits : begun p b .outer .total + length d ≤ messageLimit = omega (arith, o .counted, length-xorEach 0x5c b, length-hash p (xorEach 0x36 b ++ accepted messageLimit 0 ss) words) in
+        let fits : begun p b .outer .total + length d ≤ messageLimit =
+        omega (
+          arith,
+          o .counted,
+          length-xorEach 0x5c b,
+          length-hash p
+              (xorEach 0x36 b ++ accepted messageLimit 0 ss) words,
+        ) in
         ap (λ (x : List ℕ). hashing.finish p (hashing.feed p (feeds p (begun p b) ss .outer) x .next)) inner-hash
         ∙ ap (λ (x : Hashing). hashing.finish p (hashing.feed p x d .next)) (outer-feeds ss (begun p b))
         ∙ ap (hashing.finish p) (feed-taken p messageLimit (begun p b .outer) d fits)
         ∙ finish-holds p pos _ _ (absorbed-holds p pos (begun p b .outer) (xorEach 0x5c b) d o)
 
 -- the theorem: a tag in parts is RFC 2104's, of the parts that were accepted
-pub hmac-of-parts : (p : Sha2) → 0 < blockBytes p → length (p .iv) ≡ 8 → blockBytes p + 8 * p .bytes ≤ messageLimit → (k : List ℕ) (ss : List (List ℕ))
+pub hmac-of-parts : (p : Sha2) → 0 < blockBytes p → length (p .iv) ≡ 8 → blockBytes p + 8 * p .bytes ≤ messageLimit
+    → (k : List ℕ) (ss : List (List ℕ))
     → finish p (feeds p (begun p (keyBlock p k)) ss) ≡ hmac p k (accepted messageLimit 0 ss)
 unfolding hmac
 hmac-of-parts p pos words room k ss = tag-hash p pos (keyBlock p k) (length-keyBlock p words k) ss words room

@@ -47,9 +47,11 @@ hmac-sha256-of-parts k ss l =
     ∙ hmac-of-parts sha256 (omega arith) words (omega (arith, message-blocks)) k ss
 
 -- within the limit: the tag of all of them
-pub hmac-sha256-of-joined : (k : List ℕ) (ss : List (List ℕ)) → length k ≤ messageLimit → length (joined ss) ≤ messageLimit
+pub hmac-sha256-of-joined : (k : List ℕ) (ss : List (List ℕ)) → length k ≤ messageLimit
+    → length (joined ss) ≤ messageLimit
     → finished (feeds (started k .next) ss) ≡ hmac sha256 k (joined ss)
-hmac-sha256-of-joined k ss l m = hmac-sha256-of-parts k ss l ∙ ap (hmac sha256 k) (accepted-all messageLimit 0 ss (omega arith))
+hmac-sha256-of-joined k ss l m = hmac-sha256-of-parts k ss l
+    ∙ ap (hmac sha256 k) (accepted-all messageLimit 0 ss (omega arith))
 
 -- a whole message in one feed
 pub hmac-sha256-of-one : (k m : List ℕ) → length k ≤ messageLimit → length m ≤ messageLimit

@@ -31,7 +31,10 @@ pub record Tagged : Type 0 where
 -- a tag of nothing yet under a key block
 unfoldable pub begun : Sha2 → List ℕ → Tagging
 begun p b =
-    record { inner = hashing.absorbed p (hashing.start p) (xorEach 0x36 b); outer = hashing.absorbed p (hashing.start p) (xorEach 0x5c b) }
+    record {
+      inner = hashing.absorbed p (hashing.start p) (xorEach 0x36 b);
+      outer = hashing.absorbed p (hashing.start p) (xorEach 0x5c b);
+    }
 
 -- the state that a refused key leaves: zeros, with totals that refuse every feed
 unfoldable pub closed : Sha2 → Tagging

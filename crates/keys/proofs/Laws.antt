@@ -44,7 +44,8 @@ module _ (p f h : Credential) where
   unfolding composite
   composite-key-file e d = rw (e, d)
 
-  pub composite-within : over passwordLimit p ≡ false → over keyFileLimit f ≡ false → composite p f h ≡ compositeOf p f h
+  pub composite-within : over passwordLimit p ≡ false → over keyFileLimit f ≡ false → composite p f h
+      ≡ compositeOf p f h
   unfolding composite
   composite-within e d = rw (e, d)
 

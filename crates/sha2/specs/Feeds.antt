@@ -15,7 +15,8 @@ feeds p limit h (s ∷ ss) = feeds p limit (feedTo p limit h s .next) ss
 -- the accepted parts joined, where n bytes came before: a part that would pass the limit is left out, and the next is tried
 unfoldable pub accepted : ℕ → ℕ → List (List ℕ) → List ℕ
 accepted limit n [] = []
-accepted limit n (s ∷ ss) = cond (leb (n + length s) limit) (s ++ accepted limit (n + length s) ss) (accepted limit n ss)
+accepted limit n (s ∷ ss) = cond (leb (n + length s) limit) (s ++ accepted limit (n + length s) ss)
+    (accepted limit n ss)
 
 -- all parts joined
 unfoldable pub joined : List (List ℕ) → List ℕ

@@ -82,7 +82,8 @@ nextWord p w2 w7 w15 w16 =
 
 unfoldable pub wordAfter : Sha2 → List ℕ → ℕ
 wordAfter p ws =
-    nextWord p (getD ws (length ws - 2) 0) (getD ws (length ws - 7) 0) (getD ws (length ws - 15) 0) (getD ws (length ws - 16) 0)
+    nextWord p (getD ws (length ws - 2) 0) (getD ws (length ws - 7) 0) (getD ws (length ws - 15) 0)
+    (getD ws (length ws - 16) 0)
 
 unfoldable pub grow : Sha2 → ℕ → List ℕ → List ℕ
 grow p zero ws = ws
@@ -105,7 +106,8 @@ roundOn p a b c d e f g h k w =
 
 unfoldable pub round : Sha2 → List ℕ → ℕ → ℕ → List ℕ
 round p s k w =
-    roundOn p (getD s 0 0) (getD s 1 0) (getD s 2 0) (getD s 3 0) (getD s 4 0) (getD s 5 0) (getD s 6 0) (getD s 7 0) k w
+    roundOn p (getD s 0 0) (getD s 1 0) (getD s 2 0) (getD s 3 0) (getD s 4 0) (getD s 5 0) (getD s 6 0) (getD s 7 0) k
+    w
 
 unfoldable pub rounds : Sha2 → List ℕ → List ℕ → ℕ → List ℕ → List ℕ
 rounds p ks ws zero s = s
@@ -135,8 +137,26 @@ hash p m = digest p (hashBlocks p (p .iv) (parse p (pad p m)))
 
 -- 4.1.2, 4.2.2, 5.3.3
 abbrev pub sha256 : Sha2
-sha256 = record { bits = 32; bytes = 4; bigSigma0 = bigSigma 32 2 13 22; bigSigma1 = bigSigma 32 6 11 25; smallSigma0 = smallSigma 32 7 18 3; smallSigma1 = smallSigma 32 17 19 10; K = K256; iv = iv256 }
+sha256 = record {
+  bits = 32;
+  bytes = 4;
+  bigSigma0 = bigSigma 32 2 13 22;
+  bigSigma1 = bigSigma 32 6 11 25;
+  smallSigma0 = smallSigma 32 7 18 3;
+  smallSigma1 = smallSigma 32 17 19 10;
+  K = K256;
+  iv = iv256;
+}
 
 -- 4.1.3, 4.2.3, 5.3.5
 abbrev pub sha512 : Sha2
-sha512 = record { bits = 64; bytes = 8; bigSigma0 = bigSigma 64 28 34 39; bigSigma1 = bigSigma 64 14 18 41; smallSigma0 = smallSigma 64 1 8 7; smallSigma1 = smallSigma 64 19 61 6; K = K512; iv = iv512 }
+sha512 = record {
+  bits = 64;
+  bytes = 8;
+  bigSigma0 = bigSigma 64 28 34 39;
+  bigSigma1 = bigSigma 64 14 18 41;
+  smallSigma0 = smallSigma 64 1 8 7;
+  smallSigma1 = smallSigma 64 19 61 6;
+  K = K512;
+  iv = iv512;
+}

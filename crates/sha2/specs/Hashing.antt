@@ -48,7 +48,11 @@ kept b old m = over (rest b m) (cond (ltb (length m) b) old (replicate b 0))
 -- the state with the bytes of s behind those that came before
 unfoldable pub absorbed : Sha2 → Hashing → List ℕ → Hashing
 absorbed p h s =
-    record { chain = hashBlocks p (h .chain) (parse p (pending p h ++ s)); buffer = kept (blockBytes p) (h .buffer) (pending p h ++ s); total = h .total + length s }
+    record {
+      chain = hashBlocks p (h .chain) (parse p (pending p h ++ s));
+      buffer = kept (blockBytes p) (h .buffer) (pending p h ++ s);
+      total = h .total + length s;
+    }
 
 -- a feed under a limit on the bytes in all: refused where they would pass it, with the state as it was
 unfoldable pub feedTo : Sha2 → ℕ → Hashing → List ℕ → Fed

@@ -10,4 +10,5 @@ roundAt p ks ws t s = round p s (getD ks t 0) (getD ws t 0)
 
 -- the rounds j to j + 3
 abbrev pub fourRounds : Sha2 → List ℕ → List ℕ → ℕ → List ℕ → List ℕ
-fourRounds p ks ws j s = roundAt p ks ws (j + 3) (roundAt p ks ws (j + 2) (roundAt p ks ws (j + 1) (roundAt p ks ws j s)))
+fourRounds p ks ws j s = roundAt p ks ws (j + 3)
+    (roundAt p ks ws (j + 2) (roundAt p ks ws (j + 1) (roundAt p ks ws j s)))

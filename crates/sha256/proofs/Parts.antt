@@ -23,10 +23,13 @@ held-feeds [] h = refl
 held-feeds (s ∷ ss) h = held-feeds ss _
 
 pub sha256-of-parts : (ss : List (List ℕ)) → finished (feeds started ss) ≡ hash sha256 (accepted messageLimit 0 ss)
-sha256-of-parts ss = ap (hashing.finish sha256) (held-feeds ss started) ∙ feeds-hash sha256 (omega arith) messageLimit ss
+sha256-of-parts ss = ap (hashing.finish sha256) (held-feeds ss started)
+    ∙ feeds-hash sha256 (omega arith) messageLimit ss
 
-pub sha256-of-joined : (ss : List (List ℕ)) → length (joined ss) ≤ messageLimit → finished (feeds started ss) ≡ hash sha256 (joined ss)
-sha256-of-joined ss l = ap (hashing.finish sha256) (held-feeds ss started) ∙ feeds-hash-all sha256 (omega arith) messageLimit ss l
+pub sha256-of-joined : (ss : List (List ℕ)) → length (joined ss) ≤ messageLimit → finished (feeds started ss)
+    ≡ hash sha256 (joined ss)
+sha256-of-joined ss l = ap (hashing.finish sha256) (held-feeds ss started)
+    ∙ feeds-hash-all sha256 (omega arith) messageLimit ss l
 
 -- two parts, and three, as callers feed them
 pub sha256-of-two : (a b : List ℕ) → length a + length b ≤ messageLimit

@@ -23,7 +23,10 @@ absorbed h s = stored (hashing.absorbed sha256 (held h) s)
 
 abbrev pub fedTo : ℕ → Sha256 → List ℕ → Fed
 fedTo limit h s =
-    record { outcome = hashing.feedTo sha256 limit (held h) s .outcome; next = stored (hashing.feedTo sha256 limit (held h) s .next) }
+    record {
+      outcome = hashing.feedTo sha256 limit (held h) s .outcome;
+      next = stored (hashing.feedTo sha256 limit (held h) s .next);
+    }
 
 abbrev pub fed : Sha256 → List ℕ → Fed
 fed = fedTo messageLimit

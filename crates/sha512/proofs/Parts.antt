@@ -23,10 +23,13 @@ held-feeds [] h = refl
 held-feeds (s ∷ ss) h = held-feeds ss _
 
 pub sha512-of-parts : (ss : List (List ℕ)) → finished (feeds started ss) ≡ hash sha512 (accepted messageLimit 0 ss)
-sha512-of-parts ss = ap (hashing.finish sha512) (held-feeds ss started) ∙ feeds-hash sha512 (omega arith) messageLimit ss
+sha512-of-parts ss = ap (hashing.finish sha512) (held-feeds ss started)
+    ∙ feeds-hash sha512 (omega arith) messageLimit ss
 
-pub sha512-of-joined : (ss : List (List ℕ)) → length (joined ss) ≤ messageLimit → finished (feeds started ss) ≡ hash sha512 (joined ss)
-sha512-of-joined ss l = ap (hashing.finish sha512) (held-feeds ss started) ∙ feeds-hash-all sha512 (omega arith) messageLimit ss l
+pub sha512-of-joined : (ss : List (List ℕ)) → length (joined ss) ≤ messageLimit → finished (feeds started ss)
+    ≡ hash sha512 (joined ss)
+sha512-of-joined ss l = ap (hashing.finish sha512) (held-feeds ss started)
+    ∙ feeds-hash-all sha512 (omega arith) messageLimit ss l
 
 -- two parts, and three, as callers feed them
 pub sha512-of-two : (a b : List ℕ) → length a + length b ≤ messageLimit

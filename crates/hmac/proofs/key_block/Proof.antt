@@ -26,7 +26,8 @@ returns-2 c =
     let at-hash = c .before .before .before .before .before in
     let st = at-hash .before .before .before in
     let k = now (st .args .key) in
-    let e : at-hash .hash .result .digest ≡ hash sha256 k = ap (λ (h : Hashed). h .digest) (at-hash .hash .ensures) ∙ hashed-digest sha256 k (st .pre) in
+    let e : at-hash .hash .result .digest ≡ hash sha256 k = ap (λ (h : Hashed). h .digest) (at-hash .hash .ensures)
+    ∙ hashed-digest sha256 k (st .pre) in
     keyBlock-long sha256 words k (omega arith) e (c .before .copy2 .ensures)
 
 pub key-block-spec : {M : Type 1} → statement M

@@ -27,7 +27,10 @@ returns c =
     let m = now (st .args .m) in
     let tk = sym (at-k .message-fits .ensures) ∙ at-m .before .if1 .taken in
     let tm = sym (at-m .message-fits2 .ensures) ∙ c .before .before .before .if2 .taken in
-    let e : c .finish .result ≡ hmac sha256 k m = c .finish .ensures ∙ ap (λ (f : Keyed). finished (f .next)) (c .before .feed .ensures ∙ ap (λ (t : Keyed). fed (t .next) m) (c .before .before .start .ensures)) ∙ hmac-sha256-of-one k m (leb-true (length k) messageLimit tk) (leb-true (length m) messageLimit tm) in
+    let e : c .finish .result ≡ hmac sha256 k m = c .finish .ensures
+    ∙ ap (λ (f : Keyed). finished (f .next))
+    (c .before .feed .ensures ∙ ap (λ (t : Keyed). fed (t .next) m) (c .before .before .start .ensures))
+    ∙ hmac-sha256-of-one k m (leb-true (length k) messageLimit tk) (leb-true (length m) messageLimit tm) in
     rw (tk, tm, e)
 
 returns-2 : tie.Need-returns-2

@@ -25,8 +25,14 @@ loop-again : tie.Need-loop-again Inv-loop μ-loop
 loop-again c =
     let l = c .before .loop in
     let a = c .before .before .args in
-    let n : length (a .t1) ≡ 64 = search needs in
-    (search needs, (simp length-set (search needs), xorEach-more (a .c) (a .t1) (l .out) (l .i) (omega arith) (omega arith) (l .inv .1 .1)))
+    let n : length (a .t1) ≡ 64 = search needs in (
+      search needs,
+      (
+        simp length-set (search needs),
+        xorEach-more (a .c) (a .t1) (l .out) (l .i) (omega arith)
+            (omega arith) (l .inv .1 .1),
+      ),
+    )
 
 returns : tie.Need-returns Inv-loop μ-loop
 returns c =

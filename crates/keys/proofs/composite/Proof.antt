@@ -26,7 +26,8 @@ returns c =
     let p = credential (a .has-password) (now (a .password)) in
     let f = credential (a .has-key-file) (now (a .key-file)) in
     let h = credential (a .has-pre-hash) (now (a .pre-hash)) in
-    c .refuse .ensures ∙ ap composed (sym (composite-password p f h (beyond _ (c .before .before .password-within .ensures) (c .before .if1 .taken))))
+    c .refuse .ensures ∙ ap composed (sym
+    (composite-password p f h (beyond _ (c .before .before .password-within .ensures) (c .before .if1 .taken))))
 
 returns-2 : tie.Need-returns-2
 returns-2 c =
@@ -35,8 +36,10 @@ returns-2 c =
     let p = credential (a .has-password) (now (a .password)) in
     let f = credential (a .has-key-file) (now (a .key-file)) in
     let h = credential (a .has-pre-hash) (now (a .pre-hash)) in
-    let sp = within _ (c .before .before .before .before .password-within .ensures) (c .before .before .before .if1 .left) in
-    c .refuse2 .ensures ∙ ap composed (sym (composite-key-file p f h sp (beyond _ (c .before .before .key-file-within .ensures) (c .before .if2 .taken))))
+    let sp = within _ (c .before .before .before .before .password-within .ensures)
+    (c .before .before .before .if1 .left) in
+    c .refuse2 .ensures ∙ ap composed (sym
+    (composite-key-file p f h sp (beyond _ (c .before .before .key-file-within .ensures) (c .before .if2 .taken))))
 
 returns-3 : tie.Need-returns-3
 returns-3 c =
@@ -45,10 +48,14 @@ returns-3 c =
     let p = credential (a .has-password) (now (a .password)) in
     let f = credential (a .has-key-file) (now (a .key-file)) in
     let h = credential (a .has-pre-hash) (now (a .pre-hash)) in
-    let sp = within _ (c .before .before .before .before .before .before .password-within .ensures) (c .before .before .before .before .before .if1 .left) in
-    let sf = within _ (c .before .before .before .before .key-file-within .ensures) (c .before .before .before .if2 .left) in
+    let sp = within _ (c .before .before .before .before .before .before .password-within .ensures)
+    (c .before .before .before .before .before .if1 .left) in
+    let sf = within _ (c .before .before .before .before .key-file-within .ensures)
+    (c .before .before .before .if2 .left) in
     c .refuse3 .ensures
-    ∙ ap composed (sym (composite-within p f h sp sf ∙ rw (c .before .before .if3 .taken, c .before .if4 .taken) (with-password (now (a .password)) (now (a .pre-hash)) f)))
+    ∙ ap composed (sym (composite-within p f h sp sf
+    ∙ rw (c .before .before .if3 .taken, c .before .if4 .taken)
+    (with-password (now (a .password)) (now (a .pre-hash)) f)))
 
 returns-4 : tie.Need-returns-4
 returns-4 c =
@@ -57,10 +64,14 @@ returns-4 c =
     let p = credential (a .has-password) (now (a .password)) in
     let f = credential (a .has-key-file) (now (a .key-file)) in
     let h = credential (a .has-pre-hash) (now (a .pre-hash)) in
-    let sp = within _ (c .before .before .before .before .before .before .before .password-within .ensures) (c .before .before .before .before .before .before .if1 .left) in
-    let sf = within _ (c .before .before .before .before .before .key-file-within .ensures) (c .before .before .before .before .if2 .left) in
+    let sp = within _ (c .before .before .before .before .before .before .before .password-within .ensures)
+    (c .before .before .before .before .before .before .if1 .left) in
+    let sf = within _ (c .before .before .before .before .before .key-file-within .ensures)
+    (c .before .before .before .before .if2 .left) in
     c .refuse4 .ensures
-    ∙ ap composed (sym (composite-within p f h sp sf ∙ rw (c .before .before .before .if3 .taken, c .before .if5 .taken) (with-key-file (now (a .key-file)) (now (a .pre-hash)) p)))
+    ∙ ap composed (sym (composite-within p f h sp sf
+    ∙ rw (c .before .before .before .if3 .taken, c .before .if5 .taken)
+    (with-key-file (now (a .key-file)) (now (a .pre-hash)) p)))
 
 returns-5 : tie.Need-returns-5
 returns-5 c =
@@ -69,10 +80,13 @@ returns-5 c =
     let p = credential (a .has-password) (now (a .password)) in
     let f = credential (a .has-key-file) (now (a .key-file)) in
     let h = credential (a .has-pre-hash) (now (a .pre-hash)) in
-    let sp = within _ (c .before .before .before .before .before .before .before .password-within .ensures) (c .before .before .before .before .before .before .if1 .left) in
-    let sf = within _ (c .before .before .before .before .before .key-file-within .ensures) (c .before .before .before .before .if2 .left) in
+    let sp = within _ (c .before .before .before .before .before .before .before .password-within .ensures)
+    (c .before .before .before .before .before .before .if1 .left) in
+    let sf = within _ (c .before .before .before .before .before .key-file-within .ensures)
+    (c .before .before .before .before .if2 .left) in
     c .from-pre-hash .ensures
-    ∙ ap composed (sym (composite-within p f h sp sf ∙ rw (c .before .before .before .if3 .taken, c .before .before .if4 .left, c .before .if5 .left)))
+    ∙ ap composed (sym (composite-within p f h sp sf
+    ∙ rw (c .before .before .before .if3 .taken, c .before .before .if4 .left, c .before .if5 .left)))
 
 from-parts-requires : tie.Need-from-parts-requires
 from-parts-requires c κs =
@@ -81,9 +95,13 @@ from-parts-requires c κs =
     let p = credential (a .has-password) (now (a .password)) in
     let f = credential (a .has-key-file) (now (a .key-file)) in
     let h = credential (a .has-pre-hash) (now (a .pre-hash)) in
-    let sp = within _ (c .before .before .before .before .password-within .ensures) (c .before .before .before .if1 .left) in
-    let sf = within _ (c .before .before .key-file-within .ensures) (c .before .if2 .left) in
-    (over-mono passwordLimit messageLimit message-password p sp, over-mono keyFileLimit messageLimit message-key-file f sf)
+    let sp = within _ (c .before .before .before .before .password-within .ensures)
+    (c .before .before .before .if1 .left) in
+    let sf = within _ (c .before .before .key-file-within .ensures) (c .before .if2 .left) in (
+      over-mono passwordLimit messageLimit message-password p sp,
+      over-mono keyFileLimit messageLimit message-key-file f
+          sf,
+    )
 
 returns-6 : tie.Need-returns-6
 returns-6 c =
@@ -92,7 +110,8 @@ returns-6 c =
     let p = credential (a .has-password) (now (a .password)) in
     let f = credential (a .has-key-file) (now (a .key-file)) in
     let h = credential (a .has-pre-hash) (now (a .pre-hash)) in
-    let sp = within _ (c .before .before .before .before .before .password-within .ensures) (c .before .before .before .before .if1 .left) in
+    let sp = within _ (c .before .before .before .before .before .password-within .ensures)
+    (c .before .before .before .before .if1 .left) in
     let sf = within _ (c .before .before .before .key-file-within .ensures) (c .before .before .if2 .left) in
     c .from-parts .ensures ∙ ap composed (sym (composite-within p f h sp sf ∙ rw (c .before .if3 .left)))
 

@@ -32,7 +32,8 @@ returns c =
     let at-if = c .before .before .before in
     let at-hash = at-if .before in
     rw (at-hash .before .if1 .taken, at-if .if2 .taken)
-    (c .accept .ensures ∙ ap (λ (k : List ℕ). composed (accepted k)) (c .before .hash-two .ensures ∙ cc (at-hash .hash-of .ensures, c .before .before .key-file-part .ensures)))
+    (c .accept .ensures ∙ ap (λ (k : List ℕ). composed (accepted k))
+    (c .before .hash-two .ensures ∙ cc (at-hash .hash-of .ensures, c .before .before .key-file-part .ensures)))
 
 hash-of-requires-2 : tie.Need-hash-of-requires-2
 hash-of-requires-2 c κs = omega (arith, message-blocks)
@@ -43,7 +44,8 @@ returns-2 c =
     let at-if = c .before .before .before in
     let at-hash = at-if .before in
     rw (at-hash .before .if1 .taken, at-if .if2 .left)
-    (c .accept2 .ensures ∙ ap (λ (k : List ℕ). composed (accepted k)) (c .before .hash-of2 .ensures ∙ ap (hash sha256) (at-hash .hash-of .ensures)))
+    (c .accept2 .ensures ∙ ap (λ (k : List ℕ). composed (accepted k))
+    (c .before .hash-of2 .ensures ∙ ap (hash sha256) (at-hash .hash-of .ensures)))
 
 key-file-part-requires-2 : tie.Need-key-file-part-requires-2
 key-file-part-requires-2 c κs =
@@ -59,7 +61,8 @@ returns-3 c =
     let at-part = c .before .before .before in
     let at-if = at-part .before in
     rw (at-if .before .if1 .left, at-if .if3 .taken)
-    (c .accept3 .ensures ∙ ap (λ (k : List ℕ). composed (accepted k)) (c .before .hash-of3 .ensures ∙ ap (hash sha256) (at-part .key-file-part2 .ensures)))
+    (c .accept3 .ensures ∙ ap (λ (k : List ℕ). composed (accepted k))
+    (c .before .hash-of3 .ensures ∙ ap (hash sha256) (at-part .key-file-part2 .ensures)))
 
 returns-4 : tie.Need-returns-4
 unfolding compositeOf

@@ -27,4 +27,5 @@ returns-2 c = rw (ne-eqb _ _ (c .before .if1 .left)) (c .refuse .ensures)
 pub from-pre-hash-spec : {M : Type 1} → statement M
 from-pre-hash-spec =
     tie.close
-    (tie.spec (λ c. search needs) (λ c κs. search needs) (λ c κs. search needs) returns (λ c κs. search needs) returns-2)
+    (tie.spec (λ c. search needs) (λ c κs. search needs) (λ c κs. search needs) returns (λ c κs. search needs)
+    returns-2)

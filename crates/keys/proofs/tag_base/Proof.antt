@@ -34,7 +34,8 @@ returns c =
     let first = at-first .feed .ensures ∙ ap (λ (h : Sha512). fed h s) (at-first .before .before .start .ensures) in
     let second = at-second .feed2 .ensures ∙ ap (λ (f : Fed). fed (f .next) t) first in
     let third = c .before .feed3 .ensures ∙ ap (λ (f : Fed). fed (f .next) (1 ∷ [])) second in
-    c .finish .ensures ∙ ap (λ (f : Fed). finished (f .next)) third ∙ sha512-of-three s t (1 ∷ []) (omega (arith, message-blocks))
+    c .finish .ensures ∙ ap (λ (f : Fed). finished (f .next)) third
+    ∙ sha512-of-three s t (1 ∷ []) (omega (arith, message-blocks))
 
 pub tag-base-spec : {M : Type 1} → statement M
 tag-base-spec =

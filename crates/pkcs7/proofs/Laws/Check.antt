@@ -68,7 +68,8 @@ covered p i [] l e = rw (drop-of-length-le [] (let z : 0 ≤ 16 - p - i = omega 
 covered p i (x ∷ xs) l e = go (ltb (i + p) 16) refl (covered p (suc i) xs l (omega arith))
   where
     go : (t : Bool) → ltb (i + p) 16 ≡ t → checkedFrom p (suc i) xs ≡ allAre p (drop (16 - p - suc i) xs)
-        → cond t (checkedFrom p (suc i) xs) (checkedFrom p (suc i) xs && eqb x p) ≡ allAre p (drop (16 - p - i) (x ∷ xs))
+        → cond t (checkedFrom p (suc i) xs) (checkedFrom p (suc i) xs && eqb x p)
+        ≡ allAre p (drop (16 - p - i) (x ∷ xs))
     go true q f =
         let n = ltb-true (i + p) 16 q in
         let k : 16 - p - i ≡ suc (16 - p - suc i) = omega arith in

@@ -34,7 +34,9 @@ ofRefusal-positive OutOfSequence = omega arith
 
 -- the refusal of a number
 named : ℕ → Refusal
-named n = getD (TooLong ∷ TooLong ∷ CutShort ∷ WrongSignature ∷ WrongVersion ∷ WrongSize ∷ Repeated ∷ UnknownField ∷ Absent ∷ Unlisted ∷ BrokenDictionary ∷ TooManyRounds ∷ HeaderHash ∷ HeaderTag ∷ BlockTag ∷ TrailingBytes ∷ WrongPadding ∷ NoRoom ∷ WrongCredential ∷ OutOfSequence ∷ []) n TooLong
+named n = getD (TooLong ∷ TooLong ∷ CutShort ∷ WrongSignature ∷ WrongVersion ∷ WrongSize ∷ Repeated ∷ UnknownField ∷
+    Absent ∷ Unlisted ∷ BrokenDictionary ∷ TooManyRounds ∷ HeaderHash ∷ HeaderTag ∷ BlockTag ∷ TrailingBytes ∷
+    WrongPadding ∷ NoRoom ∷ WrongCredential ∷ OutOfSequence ∷ []) n TooLong
 
 named-ofRefusal : (r : Refusal) → named (ofRefusal r) ≡ r
 unfolding named

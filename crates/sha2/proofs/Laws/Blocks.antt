@@ -88,7 +88,8 @@ module _ (p : Sha2) (pos : 0 < blockBytes p) where
   unfolding parse cut
   parse-short m h = rw (div-eq-of-lt h)
 
-  parse-more : (m : List ℕ) → blockBytes p ≤ length m → parse p m ≡ take (blockBytes p) m ∷ parse p (drop (blockBytes p) m)
+  parse-more : (m : List ℕ) → blockBytes p ≤ length m → parse p m
+      ≡ take (blockBytes p) m ∷ parse p (drop (blockBytes p) m)
   unfolding parse cut
   parse-more m h = rw (div-eq-sub-div pos h, add-one, length-drop)
 
@@ -104,7 +105,8 @@ module _ (p : Sha2) (pos : 0 < blockBytes p) where
       rw (parse-more m h) (ap (λ (l : List ℕ). hashBlocks p l (parse p (drop (blockBytes p) m))) (compress-take p s m))
 
   hashBlocks-append-to : (n : ℕ) (s a t : List ℕ) → length a ≤ n
-      → hashBlocks p s (parse p (a ++ t)) ≡ hashBlocks p (hashBlocks p s (parse p a)) (parse p (rest (blockBytes p) a ++ t))
+      → hashBlocks p s (parse p (a ++ t))
+      ≡ hashBlocks p (hashBlocks p s (parse p a)) (parse p (rest (blockBytes p) a ++ t))
   hashBlocks-append-to zero s a t l =
       let h : length a < blockBytes p = omega arith in
       rw (rest-short (blockBytes p) pos a h, hashBlocks-short s a h)
@@ -113,15 +115,25 @@ module _ (p : Sha2) (pos : 0 < blockBytes p) where
       (λ h. rw (rest-short (blockBytes p) pos a h, hashBlocks-short s a h))
       (λ h. let k : length (drop (blockBytes p) a) ≤ n = simp length-drop (omega arith) in
       let j : blockBytes p ≤ length (a ++ t) = simp length-append (omega arith) in
-      rw (hashBlocks-more s (a ++ t) j, compress-append p s a t h, drop-append-le (blockBytes p) a t h, hashBlocks-append-to n (compress p s a) (drop (blockBytes p) a) t k, hashBlocks-more s a h, rest-more (blockBytes p) pos a h))
+      rw (
+        hashBlocks-more s (a ++ t) j,
+        compress-append p s a t h,
+        drop-append-le (blockBytes p) a t h,
+        hashBlocks-append-to n (compress p s a) (drop (blockBytes p) a) t k,
+        hashBlocks-more s a h,
+        rest-more
+            (blockBytes p) pos a h,
+      ))
 
   -- hashing two lists joined is hashing the first, and then its rest with the second
   pub hashBlocks-append : (s a t : List ℕ)
-      → hashBlocks p s (parse p (a ++ t)) ≡ hashBlocks p (hashBlocks p s (parse p a)) (parse p (rest (blockBytes p) a ++ t))
+      → hashBlocks p s (parse p (a ++ t))
+      ≡ hashBlocks p (hashBlocks p s (parse p a)) (parse p (rest (blockBytes p) a ++ t))
   hashBlocks-append s a t = hashBlocks-append-to (length a) s a t (omega arith)
 
   -- a loop over the blocks of s: one turn at a place, and the end
-  pub hashBlocks-turn : (c d s : List ℕ) (at : ℕ) → at + blockBytes p ≤ length s → d ≡ compress p c (take (length s - at) (drop at s))
+  pub hashBlocks-turn : (c d s : List ℕ) (at : ℕ) → at + blockBytes p ≤ length s → d
+      ≡ compress p c (take (length s - at) (drop at s))
       → hashBlocks p d (parse p (drop (at + blockBytes p) s)) ≡ hashBlocks p c (parse p (drop at s))
   hashBlocks-turn c d s at l e =
       let h : blockBytes p ≤ length (drop at s) = simp length-drop (omega arith) in

@@ -31,7 +31,8 @@ module _ (b : ℕ) (pos : 0 < b) (old m t : List ℕ) where
   kept-long h =
       let j : b ≤ length (m ++ t) = simp length-append (omega arith) in
       by-block b (rest b m ++ t)
-      (λ k. rw (le-ltb _ _ h, le-ltb _ _ j, lt-ltb _ _ k, rest-append b pos m t, rest-short b pos (rest b m ++ t) k) (over-over (rest b m) t (replicate b 0)))
+      (λ k. rw (le-ltb _ _ h, le-ltb _ _ j, lt-ltb _ _ k, rest-append b pos m t, rest-short b pos (rest b m ++ t) k)
+      (over-over (rest b m) t (replicate b 0)))
       (λ k. rw (le-ltb _ _ j, le-ltb _ _ k, rest-append b pos m t))
 
   kept-append : kept b (kept b old m) (rest b m ++ t) ≡ kept b old (m ++ t)
@@ -46,4 +47,6 @@ absorbed-append p pos h s t l =
     let n : h .total + length s + length t ≡ h .total + length (s ++ t) = simp length-append (omega arith) in
     let c : hashBlocks p (hashBlocks p (h .chain) (parse p (pending p h ++ s))) (parse p (pending p (absorbed p h s) ++ t)) ≡ hashBlocks p (h .chain) (parse p (pending p h ++ (s ++ t))) = cc (q, e, hashBlocks-append p pos (h .chain) (pending p h ++ s) t) in
     let k : kept (blockBytes p) (kept (blockBytes p) (h .buffer) (pending p h ++ s)) (pending p (absorbed p h s) ++ t) ≡ kept (blockBytes p) (h .buffer) (pending p h ++ (s ++ t)) = cc (q, e, kept-append (blockBytes p) pos (h .buffer) (pending p h ++ s) t) in
-    state-same (h .total + length s + length t) c k ∙ ap (state (hashBlocks p (h .chain) (parse p (pending p h ++ (s ++ t)))) (kept (blockBytes p) (h .buffer) (pending p h ++ (s ++ t)))) n
+    state-same (h .total + length s + length t) c k
+    ∙ ap (state (hashBlocks p (h .chain) (parse p (pending p h ++ (s ++ t))))
+    (kept (blockBytes p) (h .buffer) (pending p h ++ (s ++ t)))) n

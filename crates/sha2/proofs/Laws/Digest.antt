@@ -26,19 +26,24 @@ module _ (p : Sha2) where
   unfolding digest
   digest-one x = append-nil (beBytes (p .bytes) x)
 
-  digest-suc : (c : List ℕ) (i : ℕ) → i < length c → digest p (take (suc i) c) ≡ digest p (take i c) ++ beBytes (p .bytes) (getD c i 0)
+  digest-suc : (c : List ℕ) (i : ℕ) → i < length c → digest p (take (suc i) c)
+      ≡ digest p (take i c) ++ beBytes (p .bytes) (getD c i 0)
   digest-suc c i h = rw (take-suc c i 0, digest-append, digest-one)
 
   -- the bytes of word i, written behind those of the words before
   pub digest-more : (c out : List ℕ) (i : ℕ) {b d : List ℕ} → i < length c → i * p .bytes ≤ length out
-      → take (i * p .bytes) out ≡ digest p (take i c) → b ≡ beBytes (p .bytes) (getD c i 0) → d ≡ over (take (i * p .bytes) out ++ b) out
+      → take (i * p .bytes) out ≡ digest p (take i c) → b ≡ beBytes (p .bytes) (getD c i 0) → d
+      ≡ over (take (i * p .bytes) out ++ b) out
       → take ((i + 1) * p .bytes) d ≡ digest p (take (i + 1) c)
   digest-more c out i {b} {d} h l e₁ e₂ e₃ =
       let v : length b ≡ p .bytes = ap length e₂ ∙ length-beBytes (p .bytes) (getD c i 0) in
       let n = length-take-le (i * p .bytes) out l in
       let k : length (take (i * p .bytes) out ++ b) ≡ i * p .bytes + p .bytes = simp length-append (omega arith) in
-      rw (add-one, suc-mul, digest-suc c i h) (cc (e₁, e₂, e₃, take-over (take (i * p .bytes) out ++ b) out (i * p .bytes + p .bytes) k))
+      rw (add-one, suc-mul, digest-suc c i h)
+      (cc (e₁, e₂, e₃, take-over (take (i * p .bytes) out ++ b) out (i * p .bytes + p .bytes) k))
 
-  pub digest-all : (c out : List ℕ) (i n : ℕ) → length c ≤ i → length out ≤ n → i * p .bytes ≡ n → take (i * p .bytes) out ≡ digest p (take i c)
+  pub digest-all : (c out : List ℕ) (i n : ℕ) → length c ≤ i → length out ≤ n → i * p .bytes ≡ n
+      → take (i * p .bytes) out ≡ digest p (take i c)
       → out ≡ digest p c
-  digest-all c out i n h l z e = sym (take-all n out l) ∙ ap (λ (m : ℕ). take m out) (sym z) ∙ e ∙ ap (digest p) (take-all i c h)
+  digest-all c out i n h l z e = sym (take-all n out l) ∙ ap (λ (m : ℕ). take m out) (sym z) ∙ e
+      ∙ ap (digest p) (take-all i c h)

@@ -39,13 +39,15 @@ module _ (p : Sha2) (pos : 0 < blockBytes p) where
   length-next : (h : Hashing) (s : List ℕ) → length (h .buffer) ≡ blockBytes p
       → length (rest (blockBytes p) (pending p h ++ s)) ≡ (h .total + length s) % blockBytes p
   length-next h s l =
-      rw (length-rest (blockBytes p) pos (pending p h ++ s), length-append, length-pending h l) (mod-add-mod (h .total) (blockBytes p) (length s))
+      rw (length-rest (blockBytes p) pos (pending p h ++ s), length-append, length-pending h l)
+      (mod-add-mod (h .total) (blockBytes p) (length s))
 
   pub length-kept : (h : Hashing) (s : List ℕ) → length (h .buffer) ≡ blockBytes p
       → length (kept (blockBytes p) (h .buffer) (pending p h ++ s)) ≡ blockBytes p
   unfolding kept
   length-kept h s l =
-      let e = length-cond (h .buffer) (replicate (blockBytes p) 0) (ltb (length (pending p h ++ s)) (blockBytes p)) l (length-replicate (blockBytes p) 0) in
+      let e = length-cond (h .buffer) (replicate (blockBytes p) 0) (ltb (length (pending p h ++ s)) (blockBytes p)) l
+      (length-replicate (blockBytes p) 0) in
       let k = mod-lt (h .total + length s) pos in
       length-over (rest (blockBytes p) (pending p h ++ s)) _ (omega (arith, length-next h s l, e)) ∙ e
 
@@ -61,12 +63,23 @@ module _ (p : Sha2) (pos : 0 < blockBytes p) where
   pub start-holds : Holds p (start p) []
   unfolding start
   start-holds =
-      record { chained = sym (hashBlocks-short p pos (p .iv) [] pos); waiting = start-waits; counted = refl; long = length-replicate (blockBytes p) 0 }
+      record {
+        chained = sym (hashBlocks-short p pos (p .iv) [] pos);
+        waiting = start-waits;
+        counted = refl;
+        long = length-replicate (blockBytes p) 0;
+      }
 
   pub absorbed-holds : (h : Hashing) (m s : List ℕ) → Holds p h m → Holds p (absorbed p h s) (m ++ s)
   unfolding absorbed
   absorbed-holds h m s o =
-      record { chained = cc (hashBlocks-append p pos (p .iv) m s, o .chained, o .waiting); waiting = pending-absorbed h s (o .long) ∙ ap (λ (l : List ℕ). rest (blockBytes p) (l ++ s)) (o .waiting) ∙ sym (rest-append (blockBytes p) pos m s); counted = simp length-append (omega (arith, o .counted)); long = length-kept h s (o .long) }
+      record {
+        chained = cc (hashBlocks-append p pos (p .iv) m s, o .chained, o .waiting);
+        waiting = pending-absorbed h s (o .long) ∙ ap (λ (l : List ℕ). rest (blockBytes p) (l ++ s)) (o .waiting)
+            ∙ sym (rest-append (blockBytes p) pos m s);
+        counted = simp length-append (omega (arith, o .counted));
+        long = length-kept h s (o .long);
+      }
 
   pub finish-holds : (h : Hashing) (m : List ℕ) → Holds p h m → finish p h ≡ hash p m
   unfolding finish hash pad

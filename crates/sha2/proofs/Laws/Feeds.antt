@@ -32,19 +32,22 @@ module _ (p : Sha2) (limit : ℕ) (h : Hashing) (s : List ℕ) where
   feed-refused l = rw (lt-leb _ _ l)
 
 module _ (p : Sha2) (pos : 0 < blockBytes p) (limit : ℕ) where
-  pub feeds-holds : (ss : List (List ℕ)) (h : Hashing) (m : List ℕ) → Holds p h m → Holds p (feeds p limit h ss) (m ++ accepted limit (length m) ss)
+  pub feeds-holds : (ss : List (List ℕ)) (h : Hashing) (m : List ℕ) → Holds p h m
+      → Holds p (feeds p limit h ss) (m ++ accepted limit (length m) ss)
   unfolding feeds accepted
   feeds-holds [] h m o = rw append-nil o
   feeds-holds (s ∷ ss) h m o =
       by-bool (leb (length m + length s) limit)
       (λ t. let l : h .total + length s ≤ limit = omega (arith, leb-true (length m + length s) limit t, o .counted) in
-      rw (feed-taken p limit h s l, t, ← append-assoc) (rw length-append at (feeds-holds ss (absorbed p h s) (m ++ s) (absorbed-holds p pos h m s o))))
+      rw (feed-taken p limit h s l, t, ← append-assoc)
+      (rw length-append at (feeds-holds ss (absorbed p h s) (m ++ s) (absorbed-holds p pos h m s o))))
       (λ t. let l : limit < h .total + length s = omega (arith, leb-false (length m + length s) limit t, o .counted) in
       rw (feed-refused p limit h s l, t) (feeds-holds ss h m o))
 
   -- the theorem: whatever the parts, and whichever of them are refused
   pub feeds-hash : (ss : List (List ℕ)) → finish p (feeds p limit (start p) ss) ≡ hash p (accepted limit 0 ss)
-  feeds-hash ss = finish-holds p pos (feeds p limit (start p) ss) (accepted limit 0 ss) (feeds-holds ss (start p) [] (start-holds p pos))
+  feeds-hash ss = finish-holds p pos (feeds p limit (start p) ss) (accepted limit 0 ss)
+      (feeds-holds ss (start p) [] (start-holds p pos))
 
 -- parts that are within the limit together are all accepted
 pub accepted-all : (limit n : ℕ) (ss : List (List ℕ)) → n + length (joined ss) ≤ limit → accepted limit n ss ≡ joined ss
@@ -61,14 +64,17 @@ pub feeds-hash-all : (p : Sha2) → 0 < blockBytes p → (limit : ℕ) (ss : Lis
 feeds-hash-all p pos limit ss l = feeds-hash p pos limit ss ∙ ap (hash p) (accepted-all limit 0 ss (omega arith))
 
 -- a fresh state takes what is within the limit
-pub start-taken : (p : Sha2) (limit : ℕ) (m : List ℕ) → length m ≤ limit → feedTo p limit (start p) m .next ≡ absorbed p (start p) m
+pub start-taken : (p : Sha2) (limit : ℕ) (m : List ℕ) → length m ≤ limit → feedTo p limit (start p) m .next
+    ≡ absorbed p (start p) m
 unfolding start
 start-taken p limit m l = feed-taken p limit (start p) m (omega arith)
 
 -- one feed of a whole message
-pub hash-is : (p : Sha2) → 0 < blockBytes p → (limit : ℕ) (m : List ℕ) → length m ≤ limit → finish p (feedTo p limit (start p) m .next) ≡ hash p m
+pub hash-is : (p : Sha2) → 0 < blockBytes p → (limit : ℕ) (m : List ℕ) → length m ≤ limit
+    → finish p (feedTo p limit (start p) m .next) ≡ hash p m
 hash-is p pos limit m l =
-    ap (finish p) (start-taken p limit m l) ∙ finish-holds p pos (absorbed p (start p) m) m (absorbed-holds p pos (start p) [] m (start-holds p pos))
+    ap (finish p) (start-taken p limit m l)
+    ∙ finish-holds p pos (absorbed p (start p) m) m (absorbed-holds p pos (start p) [] m (start-holds p pos))
 
 pub hashed-digest : (p : Sha2) (m : List ℕ) → length m ≤ messageLimit → hashed p m .digest ≡ hash p m
 unfolding hashed

@@ -44,4 +44,5 @@ module _ (p : Sha2) where
   pub length-hash : (m : List ℕ) → length (p .iv) ≡ 8 → length (hash p m) ≡ 8 * p .bytes
   unfolding hash
   length-hash m h =
-      length-digest (hashBlocks p (p .iv) (parse p (pad p m))) ∙ ap (λ (n : ℕ). n * p .bytes) (length-hashBlocks (p .iv) (parse p (pad p m)) h)
+      length-digest (hashBlocks p (p .iv) (parse p (pad p m)))
+      ∙ ap (λ (n : ℕ). n * p .bytes) (length-hashBlocks (p .iv) (parse p (pad p m)) h)

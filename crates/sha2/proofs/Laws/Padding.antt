@@ -60,7 +60,8 @@ laid w len d at e n h f l g =
     let a : at ≡ length w + suc j = omega arith in
     let i : j ≤ k = omega arith in
     let m : d ≡ w ++ (0x80 ∷ zeros k) = g ∙ marked w n k z in
-    let s : take at d ≡ w ++ (0x80 ∷ zeros j) = ap (take at) m ∙ ap (λ (x : ℕ). take x (w ++ (0x80 ∷ zeros k))) a ∙ take-append-add w (0x80 ∷ zeros k) (suc j) ∙ ap (λ (t : List ℕ). w ++ (0x80 ∷ t)) (take-zeros j k i) in
+    let s : take at d ≡ w ++ (0x80 ∷ zeros j) = ap (take at) m ∙ ap (λ (x : ℕ). take x (w ++ (0x80 ∷ zeros k))) a
+    ∙ take-append-add w (0x80 ∷ zeros k) (suc j) ∙ ap (λ (t : List ℕ). w ++ (0x80 ∷ t)) (take-zeros j k i) in
     let y : length (take at d ++ len) ≡ e = rw s (simp (length-append, length-replicate) (omega arith)) in
     take-over (take at d ++ len) d e y ∙ ap (λ (t : List ℕ). t ++ len) s ∙ append-assoc w (0x80 ∷ zeros j) len
 
@@ -108,7 +109,8 @@ module _ (p : Sha2) (pos : 0 < blockBytes p) (h : Hashing) (long : length (h .bu
       let front : List ℕ = take (h .total % blockBytes p) (h .buffer) in
       let u : length front ≡ h .total % blockBytes p = length-take-le (h .total % blockBytes p) (h .buffer) i in
       let v : length bits ≡ 8 = ap length e₁ ∙ length-beBytes 8 (h .total * 8) in
-      let g : w ≡ set (over front (zeros n)) (length front) 0x80 = e₂ ∙ ap (λ (x : ℕ). set (over front (zeros n)) x 0x80) (sym u) in
+      let g : w ≡ set (over front (zeros n)) (length front) 0x80 = e₂
+      ∙ ap (λ (x : ℕ). set (over front (zeros n)) x 0x80) (sym u) in
       let q : length front < e - 8 = omega arith in
       let r : e - 8 + length bits ≡ e = omega arith in
       let s : e - 8 ≤ n = omega arith in

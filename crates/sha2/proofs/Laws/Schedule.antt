@@ -13,14 +13,16 @@ use Rattle.words.specs.Endian.{be}
 use Rattle.sha2.specs.Fips180.{Sha2, blockWords, nextWord, wordAfter, grow}
 
 module _ (p : Sha2) where
-  pub blockWords-more : (block w : List ℕ) (i v : ℕ) → i < length w → take i w ≡ blockWords p i block → v ≡ be (p .bytes) block (i * p .bytes)
+  pub blockWords-more : (block w : List ℕ) (i v : ℕ) → i < length w → take i w ≡ blockWords p i block → v
+      ≡ be (p .bytes) block (i * p .bytes)
       → take (i + 1) (set w i v) ≡ blockWords p (i + 1) block
   unfolding blockWords
   blockWords-more block w i v h e ev = rw (add-one, take-suc-set w i v, e, ev)
 
   -- the words that the next one is made of, by their places in an array
   wordAfter-is : (w : List ℕ) (i : ℕ) → 16 ≤ i → i ≤ length w
-      → wordAfter p (take i w) ≡ nextWord p (getD w (i - 2) 0) (getD w (i - 7) 0) (getD w (i - 15) 0) (getD w (i - 16) 0)
+      → wordAfter p (take i w) ≡ nextWord p (getD w (i - 2) 0) (getD w (i - 7) 0) (getD w (i - 15) 0)
+      (getD w (i - 16) 0)
   unfolding wordAfter
   wordAfter-is w i h₁ h₂ =
       rw (
@@ -31,7 +33,8 @@ module _ (p : Sha2) where
         getD-take i w (i - 16) 0 (omega arith),
       )
 
-  pub grow-none : (block w : List ℕ) (i : ℕ) → i ≡ 16 → take i w ≡ blockWords p i block → take i w ≡ grow p (i - 16) (blockWords p 16 block)
+  pub grow-none : (block w : List ℕ) (i : ℕ) → i ≡ 16 → take i w ≡ blockWords p i block → take i w
+      ≡ grow p (i - 16) (blockWords p 16 block)
   unfolding grow
   grow-none block w i e h = rw (h, e)
 
@@ -44,7 +47,8 @@ module _ (p : Sha2) where
       let long : i ≤ length w = omega arith in
       rw (n, add-one, take-suc-set w i v, ev, ← wordAfter-is w i h₁ long, e)
 
-  pub grow-all : (ws w : List ℕ) (i n : ℕ) → i ≡ n → length w ≡ n → take i w ≡ grow p (i - 16) ws → w ≡ grow p (n - 16) ws
+  pub grow-all : (ws w : List ℕ) (i n : ℕ) → i ≡ n → length w ≡ n → take i w ≡ grow p (i - 16) ws → w
+      ≡ grow p (n - 16) ws
   grow-all ws w i n e l h =
       let short : length w ≤ i = omega arith in
       sym (take-all i w short) ∙ h ∙ ap (λ (m : ℕ). grow p (m - 16) ws) e

@@ -32,7 +32,8 @@ state c b n = record { chain = c; buffer = b; total = n }
 pub state-same : {c c' b b' : List ℕ} (n : ℕ) → c ≡ c' → b ≡ b' → state c b n ≡ state c' b' n
 state-same n e f = cc
 
-module _ (p : Sha2) (pos : 0 < blockBytes p) (h : Hashing) (s : List ℕ) (long : length (h .buffer) ≡ blockBytes p) (need : ℕ) (are : need ≡ blockBytes p - h .total % blockBytes p) where
+module _ (p : Sha2) (pos : 0 < blockBytes p) (h : Hashing) (s : List ℕ) (long : length (h .buffer) ≡ blockBytes p)
+    (need : ℕ) (are : need ≡ blockBytes p - h .total % blockBytes p) where
   length-joined : length (pending p h ++ s) ≡ h .total % blockBytes p + length s
   unfolding pending
   length-joined =
@@ -44,7 +45,8 @@ module _ (p : Sha2) (pos : 0 < blockBytes p) (h : Hashing) (s : List ℕ) (long 
     length-short : length (pending p h ++ s) < blockBytes p
     length-short = omega (arith, length-joined)
 
-    kept-short : over (take (h .total % blockBytes p) (h .buffer) ++ take need s) (h .buffer) ≡ kept (blockBytes p) (h .buffer) (pending p h ++ s)
+    kept-short : over (take (h .total % blockBytes p) (h .buffer) ++ take need s) (h .buffer)
+        ≡ kept (blockBytes p) (h .buffer) (pending p h ++ s)
     unfolding kept pending
     kept-short =
         let k : length s ≤ need = omega arith in
@@ -55,7 +57,8 @@ module _ (p : Sha2) (pos : 0 < blockBytes p) (h : Hashing) (s : List ℕ) (long 
         → state (h .chain) b (h .total + length s) ≡ absorbed p h s
     unfolding absorbed
     absorbed-short e =
-        state-same (h .total + length s) (sym (hashBlocks-short p pos (h .chain) (pending p h ++ s) length-short)) (e ∙ kept-short)
+        state-same (h .total + length s) (sym (hashBlocks-short p pos (h .chain) (pending p h ++ s) length-short))
+        (e ∙ kept-short)
 
   module _ (enough : need ≤ length s) where
     -- the first block: what is pending, and the front of s
@@ -64,7 +67,8 @@ module _ (p : Sha2) (pos : 0 < blockBytes p) (h : Hashing) (s : List ℕ) (long 
     length-first =
         let k = mod-lt (h .total) pos in
         let i : h .total % blockBytes p ≤ length (h .buffer) = omega arith in
-        simp (length-append, length-take-le (h .total % blockBytes p) (h .buffer) i, length-take-le need s enough) (omega arith)
+        simp (length-append, length-take-le (h .total % blockBytes p) (h .buffer) i, length-take-le need s enough)
+        (omega arith)
 
     first-is : over (take (h .total % blockBytes p) (h .buffer) ++ take need s) (h .buffer) ≡ pending p h ++ take need s
     unfolding pending
@@ -95,13 +99,16 @@ module _ (p : Sha2) (pos : 0 < blockBytes p) (h : Hashing) (s : List ℕ) (long 
     rest-long = rw (length-drop, drop-drop)
 
     -- the rest is shorter than a block, so that a copy takes all of it
-    rest-fits : take (length (replicate {A = ℕ} (blockBytes p) 0)) (rest (blockBytes p) (drop need s)) ≡ rest (blockBytes p) (drop need s)
+    rest-fits : take (length (replicate {A = ℕ} (blockBytes p) 0)) (rest (blockBytes p) (drop need s))
+        ≡ rest (blockBytes p) (drop need s)
     rest-fits =
         let k = mod-lt (length (drop need s)) pos in
         let n : length (replicate {A = ℕ} (blockBytes p) 0) ≡ blockBytes p = length-replicate (blockBytes p) 0 in
-        take-all (length (replicate {A = ℕ} (blockBytes p) 0)) (rest (blockBytes p) (drop need s)) (omega (arith, length-rest (blockBytes p) pos (drop need s)))
+        take-all (length (replicate {A = ℕ} (blockBytes p) 0)) (rest (blockBytes p) (drop need s))
+        (omega (arith, length-rest (blockBytes p) pos (drop need s)))
 
-    kept-long : kept (blockBytes p) (h .buffer) (pending p h ++ s) ≡ over (rest (blockBytes p) (drop need s)) (replicate (blockBytes p) 0)
+    kept-long : kept (blockBytes p) (h .buffer) (pending p h ++ s)
+        ≡ over (rest (blockBytes p) (drop need s)) (replicate (blockBytes p) 0)
     unfolding kept
     kept-long =
         let k = mod-lt (h .total) pos in
@@ -109,10 +116,12 @@ module _ (p : Sha2) (pos : 0 < blockBytes p) (h : Hashing) (s : List ℕ) (long 
         rw (le-ltb _ _ j, rest-drop)
 
     -- a list that fills a block: the buffer's block, the blocks of the list itself, and its rest over zeros
-    pub absorbed-long : {b c d l : List ℕ} (at : ℕ) → b ≡ over (take (h .total % blockBytes p) (h .buffer) ++ take need s) (h .buffer)
+    pub absorbed-long : {b c d l : List ℕ} (at : ℕ) → b
+        ≡ over (take (h .total % blockBytes p) (h .buffer) ++ take need s) (h .buffer)
         → c ≡ hashBlocks p (h .chain) (parse p b) → d ≡ hashBlocks p c (parse p (take (length s - need) (drop need s)))
         → at ≡ need + (length s - need) / blockBytes p * blockBytes p
-        → l ≡ over (take (length (replicate {A = ℕ} (blockBytes p) 0)) (take (length s - at) (drop at s))) (replicate (blockBytes p) 0)
+        → l ≡ over (take (length (replicate {A = ℕ} (blockBytes p) 0)) (take (length s - at) (drop at s)))
+        (replicate (blockBytes p) 0)
         → state d l (h .total + length s) ≡ absorbed p h s
     unfolding absorbed
     absorbed-long at e₁ e₂ e₃ e₄ e₅ =

@@ -36,8 +36,16 @@ loop-again c =
     let four : length b ≡ 4 = search needs in
     let front = length-take-le (l .i * 4) (l .out) (omega arith) in
     let fits : length (take (l .i * 4) (l .out) ++ b) ≤ length (l .out) = simp length-append (omega arith) in
-    let e = over-behind-fits b (l .out) (at-copy .copy .last .0) (l .i * 4) (32 - l .i * 4) (omega arith) (omega arith) (at-copy .copy .ensures) in
-    (search needs, (ap length e ∙ length-over (take (l .i * 4) (l .out) ++ b) (l .out) fits ∙ l .inv .1 .0, digest-more sha256 w (l .out) (l .i) (omega arith) (omega arith) (l .inv .1 .1) (at-word .bytes32 .ensures) e))
+    let e = over-behind-fits b (l .out) (at-copy .copy .last .0) (l .i * 4) (32 - l .i * 4) (omega arith) (omega arith)
+    (at-copy .copy .ensures) in (
+      search needs,
+      (
+        ap length e ∙ length-over (take (l .i * 4) (l .out) ++ b) (l .out) fits
+            ∙ l .inv .1 .0,
+        digest-more sha256 w (l .out) (l .i) (omega arith) (omega arith) (l .inv .1 .1)
+            (at-word .bytes32 .ensures) e,
+      ),
+    )
 
 returns : tie.Need-returns Inv-loop μ-loop
 returns c =

@@ -36,8 +36,16 @@ loop-again c =
     let eight : length b ≡ 8 = search needs in
     let front = length-take-le (l .i * 8) (l .out) (omega arith) in
     let fits : length (take (l .i * 8) (l .out) ++ b) ≤ length (l .out) = simp length-append (omega arith) in
-    let e = over-behind-fits b (l .out) (at-copy .copy .last .0) (l .i * 8) (64 - l .i * 8) (omega arith) (omega arith) (at-copy .copy .ensures) in
-    (search needs, (ap length e ∙ length-over (take (l .i * 8) (l .out) ++ b) (l .out) fits ∙ l .inv .1 .0, digest-more sha512 w (l .out) (l .i) (omega arith) (omega arith) (l .inv .1 .1) (at-word .bytes64 .ensures) e))
+    let e = over-behind-fits b (l .out) (at-copy .copy .last .0) (l .i * 8) (64 - l .i * 8) (omega arith) (omega arith)
+    (at-copy .copy .ensures) in (
+      search needs,
+      (
+        ap length e ∙ length-over (take (l .i * 8) (l .out) ++ b) (l .out) fits
+            ∙ l .inv .1 .0,
+        digest-more sha512 w (l .out) (l .i) (omega arith) (omega arith) (l .inv .1 .1)
+            (at-word .bytes64 .ensures) e,
+      ),
+    )
 
 returns : tie.Need-returns Inv-loop μ-loop
 returns c =

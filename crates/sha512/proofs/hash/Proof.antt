@@ -22,7 +22,10 @@ returns c =
     let m = now (at-fits .before .before .args .m) in
     let t = sym (at-fits .message-fits .ensures) ∙ c .before .before .before .if1 .taken in
     let l : length m ≤ messageLimit = leb-true (length m) messageLimit t in
-    let e : c .finish .result ≡ hash sha512 m = c .finish .ensures ∙ ap (λ (f : Fed). finished (f .next)) (c .before .feed .ensures ∙ ap (λ (h : Sha512). fed h m) (c .before .before .start .ensures)) ∙ hash-is sha512 (search needs) messageLimit m l in
+    let e : c .finish .result ≡ hash sha512 m = c .finish .ensures
+    ∙ ap (λ (f : Fed). finished (f .next))
+    (c .before .feed .ensures ∙ ap (λ (h : Sha512). fed h m) (c .before .before .start .ensures))
+    ∙ hash-is sha512 (search needs) messageLimit m l in
     rw (t, e)
 
 returns-2 : tie.Need-returns-2
@@ -32,4 +35,5 @@ returns-2 c = rw (sym (c .before .message-fits .ensures) ∙ c .if1 .left)
 pub hash-spec : {M : Type 1} → statement M
 hash-spec =
     tie.close
-    (tie.spec (λ c κs. search needs) (λ c κs. search needs) (λ c κs. search needs) (λ c κs. search needs) returns returns-2)
+    (tie.spec (λ c κs. search needs) (λ c κs. search needs) (λ c κs. search needs) (λ c κs. search needs) returns
+    returns-2)

@@ -49,13 +49,22 @@ pub drop-over : (w d : List ℕ) (n : ℕ) → length w ≡ n → drop n (over w
 unfolding over
 drop-over w d n e = drop-at w (drop (length w) d) n e ∙ ap (λ (k : ℕ). drop k d) e
 
-pub over-more : (s d : List ℕ) (i : ℕ) → i < length s → i < length d → set (over (take i s) d) i (getD s i 0) ≡ over (take (i + 1) s) d
+pub over-more : (s d : List ℕ) (i : ℕ) → i < length s → i < length d → set (over (take i s) d) i (getD s i 0)
+    ≡ over (take (i + 1) s) d
 unfolding over
 over-more s d i h k =
     let a : i ≤ length s = omega arith in
     let b : suc i ≤ length s = omega arith in
     let e : length (take i s) ≡ i = length-take-le i s a in
-    rw (add-one, length-take-le (suc i) s b, take-suc s i 0 h, e, drop-cons d i 0 k, set-at (take i s) (getD d i 0) (drop (suc i) d) (getD s i 0) i e) (sym (append-snoc (take i s) (getD s i 0) (drop (suc i) d)))
+    rw (
+      add-one,
+      length-take-le (suc i) s b,
+      take-suc s i 0 h,
+      e,
+      drop-cons d i 0 k,
+      set-at (take i s) (getD d i 0)
+          (drop (suc i) d) (getD s i 0) i e,
+    ) (sym (append-snoc (take i s) (getD s i 0) (drop (suc i) d)))
 
 -- stores at 0, 1, 2 ..
 pub over-sets : (w d : List ℕ) → length w ≤ length d → sets d 0 w ≡ over w d

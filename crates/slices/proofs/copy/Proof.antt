@@ -27,8 +27,14 @@ loop-again c =
     let l = c .before .before .loop in
     let a = c .before .before .before .before .before .before .args in
     let h : l .i < length (now (a .s)) = omega arith in
-    let k : l .i < length (now (a .out)) = omega arith in
-    (search needs, (simp length-set (search needs), rw (l .inv .1 .1) (over-more (now (a .s)) (now (a .out)) (l .i) h k)))
+    let k : l .i < length (now (a .out)) = omega arith in (
+      search needs,
+      (
+        simp length-set (search needs),
+        rw (l .inv .1 .1)
+            (over-more (now (a .s)) (now (a .out)) (l .i) h k),
+      ),
+    )
 
 returns : tie.Need-returns Inv-loop μ-loop
 returns c =
@@ -36,7 +42,8 @@ returns c =
     let a = c .before .before .before .before .before .args in
     let e : l .i ≡ min (length (now (a .out))) (length (now (a .s))) = omega arith in
     l .inv .1 .1
-    ∙ ap (λ (w : List ℕ). over w (now (a .out))) (ap (λ (n : ℕ). take n (now (a .s))) e ∙ take-min (length (now (a .out))) (now (a .s)))
+    ∙ ap (λ (w : List ℕ). over w (now (a .out)))
+    (ap (λ (n : ℕ). take n (now (a .s))) e ∙ take-min (length (now (a .out))) (now (a .s)))
 
 pub copy-spec : {M : Type 1} → statement M
 copy-spec =

@@ -29,7 +29,8 @@ zeros-more : (d : List ℕ) (i : ℕ) → i < length d
 zeros-more d i h =
     let n : length (zeros (length d)) ≡ length d = length-replicate (length d) 0 in
     let k : i < length (zeros (length d)) = omega arith in
-    ap (set (over (take i (zeros (length d))) d) i) (sym (getD-replicate (length d) i 0 0 h)) ∙ over-more (zeros (length d)) d i k h
+    ap (set (over (take i (zeros (length d))) d) i) (sym (getD-replicate (length d) i 0 0 h))
+    ∙ over-more (zeros (length d)) d i k h
 
 loop-again : tie.Need-loop-again Inv-loop μ-loop
 loop-again c =
@@ -45,7 +46,8 @@ returns c =
     let n : length (zeros (length d)) ≡ length d = length-replicate (length d) 0 in
     let h : length (zeros (length d)) ≤ l .i = omega arith in
     let k : length d ≤ length (zeros (length d)) = omega arith in
-    l .inv .1 .1 ∙ ap (λ (w : List ℕ). over w d) (take-all (l .i) (zeros (length d)) h) ∙ over-all (zeros (length d)) d k
+    l .inv .1 .1 ∙ ap (λ (w : List ℕ). over w d) (take-all (l .i) (zeros (length d)) h)
+    ∙ over-all (zeros (length d)) d k
 
 pub zero-spec : {M : Type 1} → statement M
 zero-spec =

@@ -41,7 +41,8 @@ apply-apply f p s =
     let h : length s ≤ length k = omega arith in
     rw (length-xors s k h) (xors-undo s k h)
 
-pub apply-append : (f : ℕ → List ℕ) (p : ℕ) (a b : List ℕ) → apply f p (a ++ b) ≡ apply f p a ++ apply f (p + length a) b
+pub apply-append : (f : ℕ → List ℕ) (p : ℕ) (a b : List ℕ) → apply f p (a ++ b)
+    ≡ apply f p a ++ apply f (p + length a) b
 unfolding apply
 apply-append f p a b =
     rw (length-append, keystream-add)

@@ -71,7 +71,8 @@ xors-take-min (x ∷ s) [] = rw min-zero
 xors-take-min (x ∷ s) (y ∷ t) = rw suc-min-suc (ap (λ (l : List ℕ). bitXor x y ∷ l) (xors-take-min s t))
 
 -- the bytes that one block covers
-apply-front : (f : ℕ → List ℕ) (q : ℕ) (t : List ℕ) (r : ℕ) → length (f (q / 64)) ≡ 64 → r ≡ min (length t) (64 - q % 64)
+apply-front : (f : ℕ → List ℕ) (q : ℕ) (t : List ℕ) (r : ℕ) → length (f (q / 64)) ≡ 64 → r
+    ≡ min (length t) (64 - q % 64)
     → apply f q (take r t) ≡ xors t (drop (q % 64) (f (q / 64)))
 apply-front f q t r l e =
     let u : List ℕ = drop (q % 64) (f (q / 64)) in

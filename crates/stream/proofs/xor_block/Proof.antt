@@ -14,7 +14,8 @@ use Rattle.stream.proofs.xor_block.Tie as tie
 
 abbrev Inv-loop : tie.InvT-loop
 Inv-loop out₀ from block n i₀ out i =
-    (i ≤ n) × (length block ≡ 64) × (length out ≡ length out₀) × (out ≡ over (take i (xors out₀ (drop from block))) out₀)
+    (i ≤ n) × (length block ≡ 64) × (length out ≡ length out₀)
+    × (out ≡ over (take i (xors out₀ (drop from block))) out₀)
 
 abbrev μ-loop : tie.MeasureT-loop
 μ-loop out₀ from block n i₀ out i = n - i

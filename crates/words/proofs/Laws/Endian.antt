@@ -24,11 +24,13 @@ use lib.ListN.{length, getD, take, drop, List·getD-eq-default, List·getD-appen
 use lib.Seq.{getD-take, getD-drop, drop-cons}
 use Rattle.words.specs.Endian.{Bytes, le, be, leBytes, beBytes}
 
-pub le-4 : (s : List ℕ) (at : ℕ) → le 4 s at ≡ getD s at 0 + 256 * (getD s (at + 1) 0 + 256 * (getD s (at + 2) 0 + 256 * getD s (at + 3) 0))
+pub le-4 : (s : List ℕ) (at : ℕ) → le 4 s at
+    ≡ getD s at 0 + 256 * (getD s (at + 1) 0 + 256 * (getD s (at + 2) 0 + 256 * getD s (at + 3) 0))
 unfolding le
 le-4 s at = simp add-assoc (omega arith)
 
-pub be-4 : (s : List ℕ) (at : ℕ) → be 4 s at ≡ ((getD s at 0 * 256 + getD s (at + 1) 0) * 256 + getD s (at + 2) 0) * 256 + getD s (at + 3) 0
+pub be-4 : (s : List ℕ) (at : ℕ) → be 4 s at
+    ≡ ((getD s at 0 * 256 + getD s (at + 1) 0) * 256 + getD s (at + 2) 0) * 256 + getD s (at + 3) 0
 unfolding be
 be-4 s at = rw (add-zero at) (omega arith)
 
@@ -38,7 +40,8 @@ le-add zero n s at = rw (zero-add, add-zero) (omega arith)
 le-add (suc m) n s at =
     let e : at + suc m ≡ at + 1 + m = omega arith in
     let d : suc m + n ≡ suc (m + n) = omega arith in
-    let k : 256 ^ m * 256 * le n s (at + 1 + m) ≡ 256 * (256 ^ m * le n s (at + 1 + m)) = rw (mul-comm (256 ^ m) 256, mul-assoc) in
+    let k : 256 ^ m * 256 * le n s (at + 1 + m) ≡ 256 * (256 ^ m * le n s (at + 1 + m)) =
+    rw (mul-comm (256 ^ m) 256, mul-assoc) in
     rw (e, d, pow-suc, le-add m n s (at + 1), k) (omega arith)
 
 pub be-add : (m n : ℕ) (s : List ℕ) (at : ℕ) → be (m + n) s at ≡ be m s at * 256 ^ n + be n s (at + m)
@@ -141,12 +144,21 @@ unfolding le leBytes
 le-leBytes zero x = sym (mod-one x)
 le-leBytes (suc n) x =
     let p : 0 < 256 ^ n = one-le-pow n 256 (omega arith) in
-    rw (← le-drop 1 n (x % 256 ∷ leBytes n (x / 256)) 0, le-leBytes n (x / 256), le-digit, pow-suc) (sym (mod-mul x p (omega arith)))
+    rw (← le-drop 1 n (x % 256 ∷ leBytes n (x / 256)) 0, le-leBytes n (x / 256), le-digit, pow-suc)
+    (sym (mod-mul x p (omega arith)))
 
-pub leBytes-le : (n : ℕ) (s : List ℕ) (at : ℕ) → Bytes s → at + n ≤ length s → leBytes n (le n s at) ≡ take n (drop at s)
+pub leBytes-le : (n : ℕ) (s : List ℕ) (at : ℕ) → Bytes s → at + n ≤ length s → leBytes n (le n s at)
+    ≡ take n (drop at s)
 unfolding le leBytes
 leBytes-le zero s at p h = refl
 leBytes-le (suc n) s at p h =
     let k : at < length s = omega arith in
     let j : at + 1 + n ≤ length s = omega arith in
-    rw (le-digit, digits-mod (le n s (at + 1)) (p at), digits-div (le n s (at + 1)) (p at), leBytes-le n s (at + 1) p j, drop-cons s at 0 k, add-one at)
+    rw (
+      le-digit,
+      digits-mod (le n s (at + 1)) (p at),
+      digits-div (le n s (at + 1)) (p at),
+      leBytes-le n s (at + 1) p j,
+      drop-cons s at 0 k,
+      add-one at,
+    )

@@ -24,7 +24,8 @@ abbrev pub every : (ℕ → ℕ → Bool) → ℕ → List ℕ → Bool
 every f i [] = true
 every f i (x ∷ xs) = f i x && every f (suc i) xs
 
-every-from : (f : ℕ → ℕ → Bool) (xs : List ℕ) (i : ℕ) → T (every f i xs) → (k : ℕ) → k < length xs → T (f (i + k) (getD xs k 0))
+every-from : (f : ℕ → ℕ → Bool) (xs : List ℕ) (i : ℕ) → T (every f i xs) → (k : ℕ) → k < length xs
+    → T (f (i + k) (getD xs k 0))
 every-from f [] i t k h = absurd (not-suc-le-zero h)
 every-from f (x ∷ xs) i t zero h =
     subst (λ (m : ℕ). T (f m x)) (sym (add-zero i)) (and-left (f i x) (every f (suc i) xs) t)
@@ -42,7 +43,8 @@ below f (suc n) = f n && below f n
 
 below-from : (f : ℕ → Bool) (n : ℕ) → T (below f n) → (j k : ℕ) → k + suc j ≡ n → T (f k)
 below-from f zero t j k e = absurd (let h : ⊥ = omega arith in h)
-below-from f (suc n) t zero k e = subst (λ (m : ℕ). T (f m)) (let h : n ≡ k = omega arith in h) (and-left (f n) (below f n) t)
+below-from f (suc n) t zero k e = subst (λ (m : ℕ). T (f m)) (let h : n ≡ k = omega arith in h)
+    (and-left (f n) (below f n) t)
 below-from f (suc n) t (suc j) k e = below-from f n (and-right (f n) (below f n) t) j k (omega arith)
 
 pub below-at : (f : ℕ → Bool) (n : ℕ) → T (below f n) → (k : ℕ) → k < n → T (f k)

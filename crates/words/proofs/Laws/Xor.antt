@@ -30,7 +30,8 @@ differ-lt (suc (suc p)) q hp hq = absurd (let z : ⊥ = omega arith in z)
 
 pub xor-low : (a b : ℕ) → bitXor a b % 2 ≡ differ (a % 2) (b % 2)
 xor-low a b =
-    ap (λ (x : ℕ). x % 2) (xor-step a b) ∙ digits-mod (bitXor (a / 2) (b / 2)) (differ-lt (a % 2) (b % 2) (bit-lt a) (bit-lt b))
+    ap (λ (x : ℕ). x % 2) (xor-step a b) ∙ digits-mod (bitXor (a / 2) (b / 2))
+    (differ-lt (a % 2) (b % 2) (bit-lt a) (bit-lt b))
 
 pub xor-assoc : (a b c : ℕ) → bitXor (bitXor a b) c ≡ bitXor a (bitXor b c)
 xor-assoc a =
@@ -39,7 +40,8 @@ xor-assoc a =
     xor-step (bitXor n b) c
     ∙ ap₂ (λ (x y : ℕ). x * 2 + y)
     (ap (λ (x : ℕ). bitXor x (c / 2)) (xor-shr n b 1) ∙ ih (b / 2) (c / 2) ∙ ap (bitXor (n / 2)) (sym (xor-shr b c 1)))
-    (ap (λ (x : ℕ). differ x (c % 2)) (xor-low n b) ∙ differ-assoc (n % 2) (b % 2) (c % 2) (bit-lt n) (bit-lt b) (bit-lt c)
+    (ap (λ (x : ℕ). differ x (c % 2)) (xor-low n b)
+    ∙ differ-assoc (n % 2) (b % 2) (c % 2) (bit-lt n) (bit-lt b) (bit-lt c)
     ∙ ap (differ (n % 2)) (sym (xor-low b c)))
     ∙ sym (xor-step n (bitXor b c))) a
 

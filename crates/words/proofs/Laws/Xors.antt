@@ -43,7 +43,8 @@ length-xors (x ∷ s) (y ∷ t) h =
     let k : length s ≤ length t = omega arith in
     ap suc (length-xors s t k)
 
-pub getD-xors : (s t : List ℕ) (i : ℕ) → i < length s → i < length t → getD (xors s t) i 0 ≡ bitXor (getD s i 0) (getD t i 0)
+pub getD-xors : (s t : List ℕ) (i : ℕ) → i < length s → i < length t → getD (xors s t) i 0
+    ≡ bitXor (getD s i 0) (getD t i 0)
 unfolding xors
 getD-xors [] t i h k = absurd (omega arith)
 getD-xors (x ∷ s) [] i h k = absurd (omega arith)

@@ -23,9 +23,12 @@ returns c =
     let o = at-xors .xor-each2 .result in
     let n : length i ≡ 64 = search needs in
     let m : length o ≡ 64 = search needs in
-    let inner = ap (λ (f : Fed). held (f .next)) (at-inner .feed .ensures ∙ ap (λ (h : Sha256). fed h i) (at-inner .before .before .start .ensures)) in
-    let outer = ap (λ (f : Fed). held (f .next)) (c .before .feed2 .ensures ∙ ap (λ (h : Sha256). fed h o) (c .before .before .before .start2 .ensures)) in
-    ap tagStored (begun-is sha256 (search needs) (at-xors .before .before .args .b) (at-xors .before .xor-each .ensures) (at-xors .xor-each2 .ensures) (omega (arith, message-blocks)) (omega (arith, message-blocks)) inner outer)
+    let inner = ap (λ (f : Fed). held (f .next))
+    (at-inner .feed .ensures ∙ ap (λ (h : Sha256). fed h i) (at-inner .before .before .start .ensures)) in
+    let outer = ap (λ (f : Fed). held (f .next))
+    (c .before .feed2 .ensures ∙ ap (λ (h : Sha256). fed h o) (c .before .before .before .start2 .ensures)) in
+    ap tagStored (begun-is sha256 (search needs) (at-xors .before .before .args .b) (at-xors .before .xor-each .ensures)
+    (at-xors .xor-each2 .ensures) (omega (arith, message-blocks)) (omega (arith, message-blocks)) inner outer)
 
 pub begin-spec : {M : Type 1} → statement M
 begin-spec =

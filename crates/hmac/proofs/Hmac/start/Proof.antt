@@ -14,13 +14,19 @@ use Rattle.hmac.proofs.Hmac.start.Tie as tie
 
 key-block-requires : tie.Need-key-block-requires
 key-block-requires c κs =
-    leb-true (length (now (c .before .before .before .args .key))) messageLimit (sym (c .before .message-fits .ensures) ∙ c .if1 .taken)
+    leb-true (length (now (c .before .before .before .args .key))) messageLimit
+    (sym (c .before .message-fits .ensures) ∙ c .if1 .taken)
 
 returns : tie.Need-returns
 unfolding start
 returns c =
     let at-fits = c .before .before .before in
-    rw (sym (at-fits .message-fits .ensures) ∙ c .before .before .if1 .taken, c .begin .ensures, c .before .key-block .ensures)
+    rw (
+      sym (at-fits .message-fits .ensures)
+          ∙ c .before .before .if1 .taken,
+      c .begin .ensures,
+      c .before .key-block .ensures,
+    )
 
 returns-2 : tie.Need-returns-2
 unfolding start

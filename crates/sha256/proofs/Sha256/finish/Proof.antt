@@ -21,13 +21,15 @@ use Rattle.sha256.proofs.Sha256.finish.Tie as tie
 long : (c : tie.Start) → length (c .args .self .buffer) ≡ 64
 long c = search needs
 
-length-pending : (c : tie.Start) → length (take (c .args .self .total % 64) (c .args .self .buffer)) ≡ c .args .self .total % 64
+length-pending : (c : tie.Start) → length (take (c .args .self .total % 64) (c .args .self .buffer))
+    ≡ c .args .self .total % 64
 length-pending c = length-take-le (c .args .self .total % 64) (c .args .self .buffer) (omega (arith, long c))
 
 -- the pending bytes and the byte 80, over zeros
 marked : (c : tie.After-copy)
     → let h = c .before .before .before .before .before .before .before .args .self in
-    set (c .copy .last .0) (h .total % 64) 0x80 ≡ set (over (take (h .total % 64) (h .buffer)) (zeros 128)) (h .total % 64) 0x80
+    set (c .copy .last .0) (h .total % 64) 0x80
+    ≡ set (over (take (h .total % 64) (h .buffer)) (zeros 128)) (h .total % 64) 0x80
 marked c =
     let st = c .before .before .before .before .before .before .before in
     let used = st .args .self .total % 64 in
@@ -55,7 +57,8 @@ laid c =
     let bits = at-copy .before .before .before .bytes64 .result in
     let n = length-marked at-copy in
     let eight : length bits ≡ 8 = search needs in
-    over-behind-fits bits (set (at-copy .copy .last .0) used 0x80) (c .copy2 .last .0) at (128 - at) (omega arith) (omega arith) (c .copy2 .ensures)
+    over-behind-fits bits (set (at-copy .copy .last .0) used 0x80) (c .copy2 .last .0) at (128 - at) (omega arith)
+    (omega arith) (c .copy2 .ensures)
 
 length-laid : (c : tie.After-copy2)
     → let at-copy = c .before .before .before .before in
@@ -108,7 +111,9 @@ returns c =
     ∙ ap (digest sha256)
     (at-blocks .blocks2 .ensures
     ∙ ap (λ (l : List ℕ). hashBlocks sha256 (st .args .self .chain) (parse sha256 l))
-    (padded sha256 (search needs) (held (st .args .self)) (long st) ((t % 64 + 8) / 64 * 64 + 64) 128 (at-copy .before .before .before .bytes64 .ensures) (marked at-copy) (laid at-copy-2) (omega arith) (omega arith) (padding-256 t)))
+    (padded sha256 (search needs) (held (st .args .self)) (long st) ((t % 64 + 8) / 64 * 64 + 64) 128
+    (at-copy .before .before .before .bytes64 .ensures) (marked at-copy) (laid at-copy-2) (omega arith)
+    (omega arith) (padding-256 t)))
 
 pub finish-spec : {M : Type 1} → statement M
 finish-spec =

@@ -29,8 +29,11 @@ compress-requires c κs =
 loop-again : tie.Need-loop-again Inv-loop μ-loop
 loop-again c =
     let l = c .before .before .before .loop in
-    let s = now (c .before .before .before .before .before .args .s) in
-    (search needs, hashBlocks-turn sha256 (search needs) (l .c) (c .compress .result) s (l .at) (omega arith) (c .compress .ensures) ∙ l .inv .1)
+    let s = now (c .before .before .before .before .before .args .s) in (
+      search needs,
+      hashBlocks-turn sha256 (search needs) (l .c) (c .compress .result) s (l .at) (omega arith)
+          (c .compress .ensures) ∙ l .inv .1,
+    )
 
 returns : tie.Need-returns Inv-loop μ-loop
 returns c =

@@ -32,13 +32,16 @@ returns c =
     let t = at-rounds .rounds .result in
     let w = at-extend .extend .last .0 in
     let l = long st in
-    let scheduled : w ≡ schedule sha256 (now (st .args .s)) = at-extend .extend .ensures ∙ ap (grow sha256 48) (at-load .load .ensures .loaded) in
+    let scheduled : w ≡ schedule sha256 (now (st .args .s)) = at-extend .extend .ensures
+    ∙ ap (grow sha256 48) (at-load .load .ensures .loaded) in
     let rounded =
     at-rounds .rounds .ensures
     ∙ ap (λ (ks : List ℕ). rounds sha256 ks w 64 (eight s)) (st .pre .1)
     ∙ ap (rounds sha256 K256 w 64) (eight-is s l)
     ∙ ap (λ (v : List ℕ). rounds sha256 K256 v 64 s) scheduled in
-    sums-are 32 s (t .a) (t .b) (t .c) (t .d) (t .e) (t .f) (t .g) (t .h) l (at-1 .plus32 .ensures) (at-2 .plus322 .ensures) (at-3 .plus323 .ensures) (at-4 .plus324 .ensures) (at-5 .plus325 .ensures) (at-6 .plus326 .ensures) (at-7 .plus327 .ensures) (c .plus328 .ensures)
+    sums-are 32 s (t .a) (t .b) (t .c) (t .d) (t .e) (t .f) (t .g) (t .h) l (at-1 .plus32 .ensures)
+    (at-2 .plus322 .ensures) (at-3 .plus323 .ensures) (at-4 .plus324 .ensures) (at-5 .plus325 .ensures)
+    (at-6 .plus326 .ensures) (at-7 .plus327 .ensures) (c .plus328 .ensures)
     ∙ ap (sums 32 s) rounded
 
 pub compress-spec : {M : Type 1} → statement M

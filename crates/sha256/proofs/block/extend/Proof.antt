@@ -24,8 +24,17 @@ loop-holds c = (search needs, (search needs, (search needs, refl)))
 loop-again : tie.Need-loop-again Inv-loop μ-loop
 loop-again c =
     let l = c .before .before .before .before .before .before .loop in
-    let w = now (c .before .before .before .before .before .before .before .args .w) in
-    (search needs, (search needs, (simp length-set (search needs), grow-more sha256 (take 16 w) (l .w) (l .i) (c .next-word .result) (omega arith) (omega arith) (l .inv .1 .1 .1) (c .next-word .ensures))))
+    let w = now (c .before .before .before .before .before .before .before .args .w) in (
+      search needs,
+      (
+        search needs,
+        (
+          simp length-set (search needs),
+          grow-more sha256 (take 16 w) (l .w) (l .i)
+              (c .next-word .result) (omega arith) (omega arith) (l .inv .1 .1 .1) (c .next-word .ensures),
+        ),
+      ),
+    )
 
 returns : tie.Need-returns Inv-loop μ-loop
 returns c =

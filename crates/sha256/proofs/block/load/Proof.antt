@@ -24,8 +24,14 @@ loop-holds c = (search needs, (search needs, refl))
 loop-again : tie.Need-loop-again Inv-loop μ-loop
 loop-again c =
     let l = c .before .before .loop in
-    let b = now (c .before .before .before .before .args .s) in
-    (search needs, (simp length-set (search needs), blockWords-more sha256 b (l .w) (l .i) (c .word-at .result) (omega arith) (l .inv .1 .1) (c .word-at .ensures)))
+    let b = now (c .before .before .before .before .args .s) in (
+      search needs,
+      (
+        simp length-set (search needs),
+        blockWords-more sha256 b (l .w) (l .i) (c .word-at .result)
+            (omega arith) (l .inv .1 .1) (c .word-at .ensures),
+      ),
+    )
 
 returns : tie.Need-returns Inv-loop μ-loop
 returns c =

@@ -13,7 +13,8 @@ returns c =
     let at-2 = at-3 .before .before .before in
     let at-1 = at-2 .before .before .before in
     let st = at-1 .before .before .before in
-    fourRounds-is sha256 (now (st .args .k)) (now (st .args .w)) (words (st .args .s)) (st .args .j) (at-1 .round .ensures) (at-2 .round2 .ensures) (at-3 .round3 .ensures) (c .round4 .ensures)
+    fourRounds-is sha256 (now (st .args .k)) (now (st .args .w)) (words (st .args .s)) (st .args .j)
+    (at-1 .round .ensures) (at-2 .round2 .ensures) (at-3 .round3 .ensures) (c .round4 .ensures)
 
 pub four-rounds-spec : {M : Type 1} → statement M
 four-rounds-spec =

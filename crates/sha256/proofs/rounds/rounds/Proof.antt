@@ -25,8 +25,16 @@ loop-again : tie.Need-loop-again Inv-loop μ-loop
 loop-again c =
     let st = c .before .before .before in
     let l = c .before .before .loop in
-    let e : (l .j + 1) * 4 ≡ l .j * 4 + 4 = omega arith in
-    (search needs, cc (e, c .four-rounds .ensures, l .inv .1, rounds-four sha256 (now (st .args .k)) (now (st .args .w)) (words (st .args .s)) (l .j * 4)))
+    let e : (l .j + 1) * 4 ≡ l .j * 4 + 4 = omega arith in (
+      search needs,
+      cc (
+        e,
+        c .four-rounds .ensures,
+        l .inv .1,
+        rounds-four sha256 (now (st .args .k)) (now (st .args .w))
+            (words (st .args .s)) (l .j * 4),
+      ),
+    )
 
 returns : tie.Need-returns Inv-loop μ-loop
 returns c =

@@ -24,12 +24,14 @@ long c = search needs
 filled : (c : tie.After-copy)
     → let a = c .before .before .before .before .before .before .args in
     let used = a .self .total % 128 in
-    putMid used (128 - used) (a .self .buffer) (c .copy .last .0) ≡ over (take used (a .self .buffer) ++ take (128 - used) (now (a .s))) (a .self .buffer)
+    putMid used (128 - used) (a .self .buffer) (c .copy .last .0)
+    ≡ over (take used (a .self .buffer) ++ take (128 - used) (now (a .s))) (a .self .buffer)
 filled c =
     let st = c .before .before .before .before .before .before in
     let used = st .args .self .total % 128 in
     let l = long st in
-    over-behind (now (st .args .s)) (st .args .self .buffer) (c .copy .last .0) used (128 - used) (omega arith) (omega arith) (c .copy .ensures)
+    over-behind (now (st .args .s)) (st .args .self .buffer) (c .copy .last .0) used (128 - used) (omega arith)
+    (omega arith) (c .copy .ensures)
 
 length-filled : (c : tie.After-copy)
     → let a = c .before .before .before .before .before .before .args in
@@ -40,7 +42,8 @@ length-filled c =
     let l = long st in
     let front = length-take-le used (st .args .self .buffer) (omega arith) in
     let fits : length (take used (st .args .self .buffer) ++ take (128 - used) (now (st .args .s))) ≤ length (st .args .self .buffer) = simp (length-append, length-take) (omega arith) in
-    ap length (filled c) ∙ length-over (take used (st .args .self .buffer) ++ take (128 - used) (now (st .args .s))) (st .args .self .buffer) fits ∙ l
+    ap length (filled c) ∙ length-over (take used (st .args .self .buffer) ++ take (128 - used) (now (st .args .s)))
+    (st .args .self .buffer) fits ∙ l
 
 part-buffer-end : tie.Need-part-buffer-end
 part-buffer-end c = omega (arith, long (c .before .before .before .before))
@@ -50,7 +53,8 @@ returns c =
     let at-copy = c .before .before in
     let st = at-copy .before .before .before .before .before .before in
     let t = st .args .self .total in
-    ap stored (absorbed-short sha512 (search needs) (held (st .args .self)) (now (st .args .s)) (long st) (128 - t % 128) refl (omega arith) (filled at-copy))
+    ap stored (absorbed-short sha512 (search needs) (held (st .args .self)) (now (st .args .s)) (long st)
+    (128 - t % 128) refl (omega arith) (filled at-copy))
 
 slice-aggregate-blocks : tie.Need-slice-aggregate-blocks
 slice-aggregate-blocks c = sym (length-filled (c .before .before .before))
@@ -72,7 +76,9 @@ returns-2 c =
     let s = now (st .args .s) in
     let t = st .args .self .total in
     let need = 128 - t % 128 in
-    ap stored (absorbed-long sha512 (search needs) (held (st .args .self)) s (long st) need refl (omega arith) (need + (length s - need) / 128 * 128) (filled at-copy) (at-blocks .blocks2 .ensures) (at-blocks-2 .blocks3 .ensures) refl (c .before .copy2 .ensures))
+    ap stored (absorbed-long sha512 (search needs) (held (st .args .self)) s (long st) need refl (omega arith)
+    (need + (length s - need) / 128 * 128) (filled at-copy) (at-blocks .blocks2 .ensures)
+    (at-blocks-2 .blocks3 .ensures) refl (c .before .copy2 .ensures))
 
 pub absorb-spec : {M : Type 1} → statement M
 absorb-spec =

@@ -21,13 +21,15 @@ use Rattle.sha512.proofs.Sha512.finish.Tie as tie
 long : (c : tie.Start) → length (c .args .self .buffer) ≡ 128
 long c = search needs
 
-length-pending : (c : tie.Start) → length (take (c .args .self .total % 128) (c .args .self .buffer)) ≡ c .args .self .total % 128
+length-pending : (c : tie.Start) → length (take (c .args .self .total % 128) (c .args .self .buffer))
+    ≡ c .args .self .total % 128
 length-pending c = length-take-le (c .args .self .total % 128) (c .args .self .buffer) (omega (arith, long c))
 
 -- the pending bytes and the byte 80, over zeros
 marked : (c : tie.After-copy)
     → let h = c .before .before .before .before .before .before .before .args .self in
-    set (c .copy .last .0) (h .total % 128) 0x80 ≡ set (over (take (h .total % 128) (h .buffer)) (zeros 256)) (h .total % 128) 0x80
+    set (c .copy .last .0) (h .total % 128) 0x80
+    ≡ set (over (take (h .total % 128) (h .buffer)) (zeros 256)) (h .total % 128) 0x80
 marked c =
     let st = c .before .before .before .before .before .before .before in
     let used = st .args .self .total % 128 in
@@ -55,7 +57,8 @@ laid c =
     let bits = at-copy .before .before .before .bytes64 .result in
     let n = length-marked at-copy in
     let eight : length bits ≡ 8 = search needs in
-    over-behind-fits bits (set (at-copy .copy .last .0) used 0x80) (c .copy2 .last .0) at (256 - at) (omega arith) (omega arith) (c .copy2 .ensures)
+    over-behind-fits bits (set (at-copy .copy .last .0) used 0x80) (c .copy2 .last .0) at (256 - at) (omega arith)
+    (omega arith) (c .copy2 .ensures)
 
 length-laid : (c : tie.After-copy2)
     → let at-copy = c .before .before .before .before in
@@ -108,7 +111,9 @@ returns c =
     ∙ ap (digest sha512)
     (at-blocks .blocks2 .ensures
     ∙ ap (λ (l : List ℕ). hashBlocks sha512 (st .args .self .chain) (parse sha512 l))
-    (padded sha512 (search needs) (held (st .args .self)) (long st) ((t % 128 + 16) / 128 * 128 + 128) 256 (at-copy .before .before .before .bytes64 .ensures) (marked at-copy) (laid at-copy-2) (omega arith) (omega arith) (padding-512 t (omega arith))))
+    (padded sha512 (search needs) (held (st .args .self)) (long st) ((t % 128 + 16) / 128 * 128 + 128) 256
+    (at-copy .before .before .before .bytes64 .ensures) (marked at-copy) (laid at-copy-2) (omega arith)
+    (omega arith) (padding-512 t (omega arith))))
 
 pub finish-spec : {M : Type 1} → statement M
 finish-spec =

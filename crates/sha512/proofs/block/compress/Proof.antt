@@ -32,13 +32,16 @@ returns c =
     let t = at-rounds .rounds .result in
     let w = at-extend .extend .last .0 in
     let l = long st in
-    let scheduled : w ≡ schedule sha512 (now (st .args .s)) = at-extend .extend .ensures ∙ ap (grow sha512 64) (at-load .load .ensures .loaded) in
+    let scheduled : w ≡ schedule sha512 (now (st .args .s)) = at-extend .extend .ensures
+    ∙ ap (grow sha512 64) (at-load .load .ensures .loaded) in
     let rounded =
     at-rounds .rounds .ensures
     ∙ ap (λ (ks : List ℕ). rounds sha512 ks w 80 (eight s)) (st .pre .1)
     ∙ ap (rounds sha512 K512 w 80) (eight-is s l)
     ∙ ap (λ (v : List ℕ). rounds sha512 K512 v 80 s) scheduled in
-    sums-are 64 s (t .a) (t .b) (t .c) (t .d) (t .e) (t .f) (t .g) (t .h) l (at-1 .plus64 .ensures) (at-2 .plus642 .ensures) (at-3 .plus643 .ensures) (at-4 .plus644 .ensures) (at-5 .plus645 .ensures) (at-6 .plus646 .ensures) (at-7 .plus647 .ensures) (c .plus648 .ensures)
+    sums-are 64 s (t .a) (t .b) (t .c) (t .d) (t .e) (t .f) (t .g) (t .h) l (at-1 .plus64 .ensures)
+    (at-2 .plus642 .ensures) (at-3 .plus643 .ensures) (at-4 .plus644 .ensures) (at-5 .plus645 .ensures)
+    (at-6 .plus646 .ensures) (at-7 .plus647 .ensures) (c .plus648 .ensures)
     ∙ ap (sums 64 s) rounded
 
 pub compress-spec : {M : Type 1} → statement M

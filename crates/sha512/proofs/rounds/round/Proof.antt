@@ -9,4 +9,5 @@ unfolding round roundOn
 returns c = cc
 
 pub round-spec : {M : Type 1} → statement M
-round-spec = tie.close (tie.spec (λ c κs. search needs) (λ c κs. search needs) (λ c κs. search needs) (λ c κs. search needs) returns)
+round-spec = tie.close (tie.spec (λ c κs. search needs) (λ c κs. search needs) (λ c κs. search needs)
+    (λ c κs. search needs) returns)

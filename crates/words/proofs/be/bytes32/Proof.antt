@@ -10,4 +10,5 @@ unfolding beBytes
 returns c = rw div-one
 
 pub bytes32-spec : {M : Type 1} → statement M
-bytes32-spec = tie.close (tie.spec (λ c. search needs) (λ c. search needs) (λ c. search needs) (λ c. search needs) returns)
+bytes32-spec = tie.close (tie.spec (λ c. search needs) (λ c. search needs) (λ c. search needs) (λ c. search needs)
+    returns)

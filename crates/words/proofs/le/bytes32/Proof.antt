@@ -12,4 +12,5 @@ returns c =
     rw (shr-shr x 8 8, shr-shr x 16 8)
 
 pub bytes32-spec : {M : Type 1} → statement M
-bytes32-spec = tie.close (tie.spec (λ c. search needs) (λ c. search needs) (λ c. search needs) (λ c. search needs) returns)
+bytes32-spec = tie.close (tie.spec (λ c. search needs) (λ c. search needs) (λ c. search needs) (λ c. search needs)
+    returns)
