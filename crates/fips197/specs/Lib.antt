@@ -1,0 +1,3 @@
+pub mod Tabulate
+pub mod Fips197
+pub mod HasBytes
