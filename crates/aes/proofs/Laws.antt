@@ -1,0 +1,13 @@
+-- Laws of the cipher on columns.
+--
+-- In order:
+--   Arrays    what the type of an array says of its elements
+--   Columns   a block and its four columns
+--   Rounds    a round, by the columns that the tables give
+--   Schedule  words of the key schedule
+--   Repeated  a function applied n times
+pub mod Arrays
+pub mod Columns
+pub mod Rounds
+pub mod Schedule
+pub mod Repeated

@@ -1,0 +1,26 @@
+-- A function applied n times.
+--
+-- In order: repeated-more (once more), repeated-add (in two helpings), length-repeated.
+-- Assumes nothing.
+use mathlib.Core.Path.{_≡_, refl, ap, _∙_}
+use mathlib.Core.List.{List}
+use Prim.Native.Nat.{ℕ, zero, suc, _+_}
+use native.Mathlib.Nat.{zero-add, suc-add}
+use native.Mathlib.Numerals.{add-one}
+use lib.ListN.{length}
+use Rattle.aes.specs.Repeated.{repeated}
+
+pub repeated-more : (f : List ℕ → List ℕ) (s : List ℕ) (i : ℕ) (x y : List ℕ) → x ≡ repeated f i s → y ≡ f x → y ≡ repeated f (i + 1) s
+unfolding repeated
+repeated-more f s i x y p q = rw add-one (q ∙ ap f p)
+
+pub repeated-add : (f : List ℕ → List ℕ) (m n : ℕ) (s : List ℕ) → repeated f (m + n) s ≡ repeated f m (repeated f n s)
+unfolding repeated
+repeated-add f zero n s = rw zero-add
+repeated-add f (suc m) n s = rw suc-add (ap f (repeated-add f m n s))
+
+pub length-repeated : (f : List ℕ → List ℕ) (k : ℕ) → ((s : List ℕ) → length s ≡ k → length (f s) ≡ k) → (n : ℕ) (s : List ℕ)
+    → length s ≡ k → length (repeated f n s) ≡ k
+unfolding repeated
+length-repeated f k h zero s e = e
+length-repeated f k h (suc n) s e = h (repeated f n s) (length-repeated f k h n s e)

@@ -1,0 +1,31 @@
+-- `aes::cipher::final_round` meets its contract. Assumes nothing.
+use mathlib.Core.Path.{ap, _∙_}
+use mathlib.Core.List.{List}
+use Prim.Native.Nat.{ℕ}
+use denote.Ref.{now}
+use Rattle.fips197.specs.Fips197.{addRoundKey, finalRound}
+use Rattle.aes.proofs.Laws.Rounds.{sub-is}
+use borrow.Author.Needs.{needs}
+use Rattle.aes.proofs.cipher.final_round.Statement.{statement}
+use Rattle.aes.proofs.cipher.final_round.Tie as tie
+
+returns : tie.Need-returns
+unfolding finalRound
+returns c =
+    λ e. let a = c .before .before .before .before .before .args in
+    c .add-round-key .ensures
+    ∙ ap (λ (s : List ℕ). addRoundKey s (now (a .w)) 14)
+    (sub-is e (a .s .a) (a .s .b) (a .s .c) (a .s .d) (c .before .before .before .before .sub-column .result) (c .before .before .before .sub-column2 .result)
+    (c .before .before .sub-column3 .result) (c .before .sub-column4 .result)
+    (c .before .before .before .before .sub-column .ensures) (c .before .before .before .sub-column2 .ensures) (c .before .before .sub-column3 .ensures) (c .before .sub-column4 .ensures))
+
+pub final-round-spec : {M : Type 1} → statement M
+final-round-spec =
+    tie.close
+    (tie.spec
+    (λ c κs. search needs)
+    (λ c κs. search needs)
+    (λ c κs. search needs)
+    (λ c κs. search needs)
+    (λ c κs. search needs)
+    returns)

@@ -1,0 +1,38 @@
+-- `aes::cipher::round` meets its contract. Assumes nothing.
+use denote.Ref.{now}
+use Rattle.aes.proofs.Laws.Rounds.{round-is}
+use borrow.Author.Needs.{needs}
+use Rattle.aes.proofs.cipher.round.Statement.{statement}
+use Rattle.aes.proofs.cipher.round.Tie as tie
+
+returns : tie.Need-returns
+returns c =
+    λ e. let a = c .before .before .before .before .before .before .before .before .args in
+    round-is e (now (a .w)) (a .i) (a .s .a) (a .s .b) (a .s .c) (a .s .d) (c .before .before .before .column .result) (c .before .before .column2 .result)
+    (c .before .column3 .result) (c .column4 .result)
+    (c .before .before .before .column .ensures) (c .before .before .column2 .ensures) (c .before .column3 .ensures) (c .column4 .ensures)
+
+pub round-spec : {M : Type 1} → statement M
+round-spec =
+    tie.close
+    (tie.spec
+    (λ c. search needs)
+    (λ c. search needs)
+    (λ c. search needs)
+    (λ c. search needs)
+    (λ c. search needs)
+    (λ c. search needs)
+    (λ c. search needs)
+    (λ c. search needs)
+    (λ c. search needs)
+    (λ c. search needs)
+    (λ c. search needs)
+    (λ c. search needs)
+    (λ c. search needs)
+    (λ c. search needs)
+    (λ c. search needs)
+    (λ c κs. search needs)
+    (λ c κs. search needs)
+    (λ c κs. search needs)
+    (λ c κs. search needs)
+    returns)

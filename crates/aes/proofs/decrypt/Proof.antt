@@ -1,0 +1,31 @@
+-- `aes::decrypt` meets its contract. Assumes nothing.
+use mathlib.Core.Path.{ap, ap₂, _∙_}
+use mathlib.Core.List.{List}
+use Prim.Native.Nat.{ℕ}
+use Rattle.fips197.specs.Fips197.{eqInvCipher}
+use Rattle.fips197.proofs.Laws.Equivalent.{eqInvCipher-dual}
+use Rattle.aes_tables.proofs.Laws.Entries.{mixed-inverse}
+use borrow.Author.Needs.{needs}
+use Rattle.aes.proofs.decrypt.Statement.{statement}
+use Rattle.aes.proofs.decrypt.Tie as tie
+
+returns : tie.Need-returns
+returns c =
+    let inverse = c .before .before .before .before .before .before .before .before .before .before .before .before .inverse .ensures in
+    let td = c .before .before .before .before .before .before .before .before .before .before .td .ensures ∙ mixed-inverse inverse in
+    let dual = c .before .before .before .before .before .before .dual .ensures (c .before .before .before .before .before .before .before .before .before .before .before .before .before .te .ensures) td in
+    c .store .ensures ∙ c .before .decrypt .ensures inverse td ∙ ap₂ eqInvCipher (c .before .before .load .ensures) dual
+    ∙ eqInvCipher-dual _ (c .before .before .before .before .before .before .before .before .before .before .before .before .before .before .args .keys .words)
+
+pub decrypt-spec : {M : Type 1} → statement M
+decrypt-spec =
+    tie.close
+    (tie.spec
+    (λ c κs. search needs)
+    (λ c κs. search needs)
+    (λ c κs. search needs)
+    (λ c κs. search needs)
+    (λ c κs. search needs)
+    (λ c κs. search needs)
+    (λ c κs. search needs)
+    returns)

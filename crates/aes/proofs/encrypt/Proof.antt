@@ -1,0 +1,17 @@
+-- `aes::encrypt` meets its contract. Assumes nothing.
+use mathlib.Core.Path.{ap, _∙_}
+use mathlib.Core.List.{List}
+use Prim.Native.Nat.{ℕ}
+use Rattle.fips197.specs.Fips197.{cipher}
+use borrow.Author.Needs.{needs}
+use Rattle.aes.proofs.encrypt.Statement.{statement}
+use Rattle.aes.proofs.encrypt.Tie as tie
+
+returns : tie.Need-returns
+returns c =
+    c .store .ensures ∙ c .before .encrypt .ensures (c .before .before .before .before .before .before .te .ensures)
+    ∙ ap (λ (s : List ℕ). cipher s (c .before .before .before .before .before .before .before .args .keys .words)) (c .before .before .load .ensures)
+
+pub encrypt-spec : {M : Type 1} → statement M
+encrypt-spec =
+    tie.close (tie.spec (λ c κs. search needs) (λ c κs. search needs) (λ c κs. search needs) (λ c κs. search needs) returns)

@@ -1,0 +1,31 @@
+-- `aes::inv_cipher::inv_final_round` meets its contract. Assumes nothing.
+use mathlib.Core.Path.{ap, _∙_}
+use mathlib.Core.List.{List}
+use Prim.Native.Nat.{ℕ}
+use denote.Ref.{now}
+use Rattle.fips197.specs.Fips197.{addRoundKey, eqInvFinalRound}
+use Rattle.aes.proofs.Laws.Rounds.{invSub-is}
+use borrow.Author.Needs.{needs}
+use Rattle.aes.proofs.inv_cipher.inv_final_round.Statement.{statement}
+use Rattle.aes.proofs.inv_cipher.inv_final_round.Tie as tie
+
+returns : tie.Need-returns
+unfolding eqInvFinalRound
+returns c =
+    λ e. let a = c .before .before .before .before .before .args in
+    c .add-round-key .ensures
+    ∙ ap (λ (s : List ℕ). addRoundKey s (now (a .v)) 0)
+    (invSub-is e (a .s .a) (a .s .b) (a .s .c) (a .s .d) (c .before .before .before .before .inv-sub-column .result) (c .before .before .before .inv-sub-column2 .result)
+    (c .before .before .inv-sub-column3 .result) (c .before .inv-sub-column4 .result)
+    (c .before .before .before .before .inv-sub-column .ensures) (c .before .before .before .inv-sub-column2 .ensures) (c .before .before .inv-sub-column3 .ensures) (c .before .inv-sub-column4 .ensures))
+
+pub inv-final-round-spec : {M : Type 1} → statement M
+inv-final-round-spec =
+    tie.close
+    (tie.spec
+    (λ c κs. search needs)
+    (λ c κs. search needs)
+    (λ c κs. search needs)
+    (λ c κs. search needs)
+    (λ c κs. search needs)
+    returns)

@@ -1,0 +1,38 @@
+-- `aes::inv_cipher::inv_round` meets its contract. Assumes nothing.
+use denote.Ref.{now}
+use Rattle.aes.proofs.Laws.Rounds.{eqInvRound-is}
+use borrow.Author.Needs.{needs}
+use Rattle.aes.proofs.inv_cipher.inv_round.Statement.{statement}
+use Rattle.aes.proofs.inv_cipher.inv_round.Tie as tie
+
+returns : tie.Need-returns
+returns c =
+    λ e. let a = c .before .before .before .before .before .before .before .before .args in
+    eqInvRound-is e (now (a .v)) (a .i) (a .s .a) (a .s .b) (a .s .c) (a .s .d) (c .before .before .before .column .result) (c .before .before .column2 .result)
+    (c .before .column3 .result) (c .column4 .result)
+    (c .before .before .before .column .ensures) (c .before .before .column2 .ensures) (c .before .column3 .ensures) (c .column4 .ensures)
+
+pub inv-round-spec : {M : Type 1} → statement M
+inv-round-spec =
+    tie.close
+    (tie.spec
+    (λ c. search needs)
+    (λ c. search needs)
+    (λ c. search needs)
+    (λ c. search needs)
+    (λ c. search needs)
+    (λ c. search needs)
+    (λ c. search needs)
+    (λ c. search needs)
+    (λ c. search needs)
+    (λ c. search needs)
+    (λ c. search needs)
+    (λ c. search needs)
+    (λ c. search needs)
+    (λ c. search needs)
+    (λ c. search needs)
+    (λ c κs. search needs)
+    (λ c κs. search needs)
+    (λ c κs. search needs)
+    (λ c κs. search needs)
+    returns)
