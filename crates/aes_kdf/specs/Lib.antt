@@ -1,0 +1,2 @@
+pub mod AesKdf
+pub mod State
