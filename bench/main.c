@@ -3,8 +3,8 @@
 //   harness list                    the rows and the states of every family
 //   harness check                   both sides on many inputs; status 1 where they differ
 //   harness calls NAME SIDE COUNT   COUNT calls of a row, for callgrind to count
-//   harness time NAME SIDE          nanoseconds of one call, the least of 15 runs of about 20 ms
 //   harness stack NAME SIDE         bytes of stack that one call uses
+//   harness time NAME               nanoseconds of one call of each side, the least of 30 runs of about 10 ms
 #include "bench.h"
 
 #include <time.h>
@@ -61,14 +61,18 @@ static double ns_of(void (*work)(size_t), size_t size, long calls) {
     return now() - began;
 }
 
-static double time_of(void (*work)(size_t), size_t size) {
-    double once = ns_of(work, size, 1), best = 0;
-    long calls = once < 2e7 ? (long)(2e7 / (once + 1)) + 1 : 1;
-    for (int i = 0; i < 15; i++) {
-        double each = ns_of(work, size, calls) / calls;
-        if (i == 0 || each < best) best = each;
-    }
-    return best;
+// Both sides in turn, so that whatever else the machine does meets both.
+static void print_times(const struct row *r) {
+    double best[2] = {0, 0};
+    void (*const sides[2])(size_t) = {r->ours, r->peer};
+    double once = ns_of(r->ours, r->size, 1);
+    long calls = once < 1e7 ? (long)(1e7 / (once + 1)) + 1 : 1;
+    for (int i = 0; i < 30; i++)
+        for (int s = 0; s < 2; s++) {
+            double each = ns_of(sides[s], r->size, calls) / calls;
+            if (i == 0 || each < best[s]) best[s] = each;
+        }
+    printf("%.1f %.1f\n", best[0], best[1]);
 }
 
 // The stack that a call uses: it runs on a stack of its own that was painted before, and how deep the paint went is counted.
@@ -103,15 +107,16 @@ int main(int count, char **words) {
             if (!families[f]->check()) return 1;
         return 0;
     }
-    if (count < 4) return 2;
+    if (count < 3) return 2;
     const struct row *r = row_named(words[2]);
+    if (strcmp(what, "time") == 0) return print_times(r), 0;
+    if (count < 4) return 2;
     void (*work)(size_t) = strcmp(words[3], "ours") == 0 ? r->ours : r->peer;
     if (strcmp(what, "calls") == 0 && count == 5) {
         for (long i = atol(words[4]); i > 0; i--) work(r->size);
         return 0;
     }
     work(r->size);
-    if (strcmp(what, "time") == 0) return printf("%.1f\n", time_of(work, r->size)), 0;
     if (strcmp(what, "stack") == 0) return printf("%zu\n", depth(work, r->size) - depth(nothing, 0)), 0;
     return 2;
 }
