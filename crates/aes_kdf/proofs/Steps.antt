@@ -5,6 +5,8 @@
 --   transformation-of-steps   after any list of steps the halves and the count are those of so many rounds, in one state
 --   key-at-end                once all rounds are done, T is the definition's
 --   key-too-early             before, there is none: refusal 19
+--   key-in-one-step           all rounds in one step
+--   started-within            an accepted start has no more rounds than the limit
 --   doneBy-le, doneBy-end     no more rounds are done than are asked for; j steps of n do all of r where j * n is at least r
 --   steps-end                 steps of n, n at least 1, end within r / n rounded up
 -- Assumes nothing.
@@ -14,8 +16,10 @@ use mathlib.Core.List.{List, [], _∷_}
 use Prim.Native.Nat.{ℕ, zero, suc, _+_, _-_, _*_, _/_, _%_, _≤_, _<_, min}
 use native.Mathlib.Nat.{div-add-mod', mod-lt, suc-mul}
 use native.Mathlib.Omega.{arith}
+use lib.Dec.{leb}
 use lib.ListN.{replicate}
-use borrow.Author.Tests.{eq-eqb, ne-eqb, le-leb}
+use borrow.Author.Tests.{eq-eqb, ne-eqb, le-leb, leb-true}
+use Rattle.words.proofs.Laws.Cases.{by-bool}
 use Rattle.refusals.specs.declared.Refusal.the-variants.{OutOfSequence}
 use Rattle.refusals.specs.declared.Outcome.the-variants.{Accepted, Refused}
 use Rattle.refusals.specs.Limits.{roundsLimit}
@@ -84,6 +88,17 @@ module _ (c s : List ℕ) (r : ℕ) (within : r ≤ roundsLimit) where
   key-too-early ns n =
       ap answered (ap kdf.finish (transformation-of-steps ns)
       ∙ finish-early (doneBy r ns 0) (doneBy-le r ns 0 (omega arith)) n)
+
+  pub key-in-one-step : finished (advanced r (started c s r .next)) ≡ record { outcome = Accepted; key = transformedKey c s r }
+  unfolding advances doneBy
+  key-in-one-step = key-at-end (r ∷ []) (omega arith)
+
+pub started-within : (c s : List ℕ) (r : ℕ) → started c s r .outcome ≡ Accepted → r ≤ roundsLimit
+unfolding kdf.start
+started-within c s r e =
+    by-bool (leb r roundsLimit) (leb-true r roundsLimit)
+    (λ t. let d = rw t at e in
+    let z : _≡_ {A = ℕ} 0 1 = cc in absurd (omega arith))
 
 -- so many steps of n as r / n rounded up
 pub steps-end : (r n : ℕ) → 1 ≤ n → doneBy r (replicate ((r + n - 1) / n) n) 0 ≡ r

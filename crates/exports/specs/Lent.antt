@@ -8,6 +8,7 @@ use Rattle.refusals.specs.declared.Outcome.the-variants.{Accepted, Refused}
 use Rattle.sha256.specs.State as sha256State
 use Rattle.sha512.specs.State as sha512State
 use Rattle.hmac.specs.State as hmacState
+use Rattle.aes_kdf.specs.AesKdf as kdf
 
 -- the result where the operation accepts, and the bytes that the array had where it refuses
 abbrev pub resultOr : Outcome → List ℕ → List ℕ → List ℕ
@@ -22,3 +23,7 @@ sha512 m had = resultOr (sha512State.hashed m .outcome) (sha512State.hashed m .d
 
 abbrev pub hmacSha256 : List ℕ → List ℕ → List ℕ → List ℕ
 hmacSha256 k m had = resultOr (hmacState.tagged k m .outcome) (hmacState.tagged k m .tag) had
+
+abbrev pub aesKdf : List ℕ → List ℕ → ℕ → List ℕ → List ℕ
+aesKdf composite seed rounds had =
+    resultOr (kdf.start composite seed rounds .outcome) (kdf.transformedKey composite seed rounds) had

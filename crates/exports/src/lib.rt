@@ -7,7 +7,12 @@ ghost use Rattle.refusals.specs.Numbers as numbers;
 ghost use Rattle.sha256.specs.State as sha256;
 ghost use Rattle.sha512.specs.State as sha512;
 ghost use Rattle.hmac.specs.State as hmac;
+ghost use Rattle.stream.specs.Stream as stream;
+ghost use Rattle.chacha20.specs.Rfc8439 as rfc8439;
+ghost use Rattle.aes_kdf.specs.AesKdf as kdf;
 ghost use Rattle.exports.specs.Lent as lent;
+use aes_kdf::Transformation;
+use chacha20::ChaCha20;
 use refusals::Outcome;
 
 // SHA-256 (FIPS 180-4) of `m`.
@@ -53,6 +58,40 @@ pub extern "C" fn kdbx4_hmac_sha256(key: &[u8], m: &[u8], out: &mut [u8; 32]) ->
     let tag = t.tag;
     if let Outcome::Accepted = outcome {
         *out = tag;
+        return 0;
+    }
+    outcome.number()
+}
+
+// ChaCha20 (RFC 8439) in place: the stream of a key and a nonce, from byte `at` of it on, applied to `out`.
+#[no_mangle]
+pub extern "C" fn kdbx4_chacha20(key: &[u8; 32], nonce: &[u8; 12], at: u64, out: &mut [u8])
+    ensures { λ _. ⌜ now (out .exit) ≡ stream.apply (rfc8439.blocks (now (key .entry)) (now (nonce .entry))) at (now (out .entry)) ⌝ }
+{
+    let k = *key;
+    let n = *nonce;
+    ChaCha20::apply(k, n, at, out);
+}
+
+// AES-KDF in one call: the transformed key T of a composite key, a seed and a number of rounds.
+#[no_mangle]
+pub extern "C" fn kdbx4_aes_kdf(
+    composite: &[u8; 32],
+    seed: &[u8; 32],
+    rounds: u64,
+    out: &mut [u8; 32],
+) -> u8
+    ensures { λ r. ⌜ r ≡ numbers.ofOutcome (kdf.start (now (composite .entry)) (now (seed .entry)) rounds .outcome) ⌝ }
+    ensures { λ _. ⌜ now (out .exit) ≡ lent.aesKdf (now (composite .entry)) (now (seed .entry)) rounds (now (out .entry)) ⌝ }
+{
+    let c = *composite;
+    let s = *seed;
+    let started = Transformation::start(c, s, rounds);
+    let outcome = started.outcome;
+    let next = started.next;
+    if let Outcome::Accepted = outcome {
+        let key = next.advance(rounds).finish().key;
+        *out = key;
         return 0;
     }
     outcome.number()
