@@ -4,7 +4,7 @@
 --   invMixOf, invMixWord-bytes                           a word mixed
 --   dualWord-first, dualWord-mixed, dualWord-last, length-dual    the words of the dual key schedule
 --   invMixColumns-addRoundKey                            a round key mixed beforehand
---   eqInvCipher-dual                                     the theorem
+--   eqInvCipher-dual, length-eqInvCipher                 the theorem
 -- Assumes nothing.
 use mathlib.Core.Path.{_≡_, refl, sym, _∙_, ap, ap₂}
 use mathlib.Core.List.{List}
@@ -127,3 +127,7 @@ eqInvCipher-dual s w =
     ap (λ (t : List ℕ). eqInvFinalRound (eqInvRounds t (dual w) 13) (dual w)) (addRoundKey-last s w)
     ∙ ap (λ (t : List ℕ). eqInvFinalRound t (dual w)) (eqInvRounds-dual (addRoundKey s w 14) w 13 (omega arith))
     ∙ addRoundKey-first (invShiftRows (invSubBytes (invRounds (addRoundKey s w 14) w 13))) w
+
+pub length-eqInvCipher : (s v : List ℕ) → length (eqInvCipher s v) ≡ 16
+unfolding eqInvCipher eqInvFinalRound
+length-eqInvCipher s v = refl
