@@ -1,0 +1,40 @@
+-- `aes_cbc::load_front` meets its contract. Assumes nothing.
+use native.Mathlib.Omega.{arith}
+use denote.Ref.{now}
+use Rattle.aes.proofs.Laws.Columns.{columns-word}
+use borrow.Author.Needs.{needs}
+use Rattle.aes_cbc.proofs.load_front.Statement.{statement}
+use Rattle.aes_cbc.proofs.load_front.Tie as tie
+
+returns : tie.Need-returns
+returns c =
+    let start = c .before .before .before .before .before .before .before .before .before .before .before .before .before .before .before .before .before .before .before .before .before in
+    columns-word (now (start .args .s)) (start .pre) (λ k. omega (arith, c .before .before .before .before .before .before .before .before .before .before .before .before .before .before .before .before .before .before .before .before .shared-slice-known .given k))
+    (c .before .before .before .before .before .before .before .before .before .before .before .before .before .before .before .u32-of .result) (c .before .before .before .before .before .before .before .before .before .before .u32-of2 .result) (c .before .before .before .before .before .u32-of3 .result) (c .u32-of4 .result)
+    (c .before .before .before .before .before .before .before .before .before .before .before .before .before .before .before .u32-of .ensures) (c .before .before .before .before .before .before .before .before .before .before .u32-of2 .ensures) (c .before .before .before .before .before .u32-of3 .ensures) (c .u32-of4 .ensures)
+
+pub load-front-spec : {M : Type 1} → statement M
+load-front-spec =
+    tie.close
+    (tie.spec
+    (λ c. search needs)
+    (λ c. search needs)
+    (λ c. search needs)
+    (λ c. search needs)
+    (λ c κs. search needs)
+    (λ c. search needs)
+    (λ c. search needs)
+    (λ c. search needs)
+    (λ c. search needs)
+    (λ c κs. search needs)
+    (λ c. search needs)
+    (λ c. search needs)
+    (λ c. search needs)
+    (λ c. search needs)
+    (λ c κs. search needs)
+    (λ c. search needs)
+    (λ c. search needs)
+    (λ c. search needs)
+    (λ c. search needs)
+    (λ c κs. search needs)
+    returns)
