@@ -92,10 +92,10 @@ fn decrypt_run(
     let mut i: usize = 0;
     while i < n {
         let at = 16 * i;
-        let c = load_front(&out[at..]);
-        let p = inv_cipher::decrypt(inverse, td, v, c);
+        let x = load_front(&out[at..]);
+        let p = inv_cipher::decrypt(inverse, td, v, x);
         store_front(&mut out[at..], block::xor(p, before));
-        before = c;
+        before = x;
         i += 1;
     }
     before
