@@ -1,10 +1,10 @@
-// Slices of bytes: copying into a lent one, comparing two, zeroing.
+// Slices of bytes: copying into a lent one, comparing two, a part of one, zeroing.
 //
 // The contracts cite specs/Over (what stands in a lent slice after a writing) and specs/Same. Every function answers every
 // input: a copy takes as many bytes as there is room for, and slices of two lengths differ.
 ghost use mathlib.Core.Path.{_≡_};
 ghost use Prim.Native.Nat.{min};
-ghost use lib.ListN.{length, take, replicate};
+ghost use lib.ListN.{length, take, drop, replicate};
 ghost use Rattle.slices.specs.Over.{over};
 ghost use Rattle.slices.specs.Same.{same as sameLists};
 
@@ -44,6 +44,19 @@ pub fn same(a: &[u8], b: &[u8]) -> bool
         i += 1;
     }
     d == 0
+}
+
+// So many bytes from a place on, as many of them as there are.
+pub fn part(s: &[u8], start: usize, len: usize) -> &[u8]
+    ensures { λ r. ⌜ now r ≡ take len (drop start (now (s .entry))) ⌝ }
+{
+    if s.len() <= start {
+        return &s[0..0];
+    }
+    if s.len() - start < len {
+        return &s[start..];
+    }
+    &s[start..start + len]
 }
 
 // Sets every byte to zero.
