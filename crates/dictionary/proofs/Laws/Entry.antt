@@ -1,0 +1,75 @@
+-- Where the parts of an item lie.
+--
+-- In order: entryAt-past (no entry behind the end), IsWithin, entryAt-within (an item's parts lie one after the other, within
+-- the dictionary).
+-- Assumes nothing.
+use mathlib.Core.Path.{_≡_, refl, sym, _∙_}
+use mathlib.Core.List.{List}
+use Prim.Native.Nat.{ℕ, _+_, _-_, _≤_}
+use native.Mathlib.Omega.{arith}
+use lib.Dec.{eqb, leb, ltb}
+use lib.ListN.{length, getD}
+use borrow.Author.Tests.{le-leb, leb-false, ltb-false}
+use Rattle.words.specs.Endian.{le}
+use Rattle.words.specs.Size.{int32}
+use Rattle.words.specs.declared.le.Size.{Size}
+use Rattle.words.specs.declared.le.Size.the-variants.{Of, Negative}
+use Rattle.words.proofs.Laws.Cases.{by-bool}
+use Rattle.dictionary.specs.declared.Item.{Item}
+use Rattle.dictionary.specs.declared.Entry.{Entry}
+use Rattle.dictionary.specs.declared.Entry.the-variants as entry
+use Rattle.dictionary.specs.Dictionary.{sizeFits, itemAt, valueAt, nameAt, entryAt, next}
+
+pub entryAt-past : (s : List ℕ) (at : ℕ) → length s ≤ at → entryAt s at ≡ entry.Broken
+unfolding entryAt
+entryAt-past s at h = rw (le-leb (length s) at h)
+
+-- the item at a place: its name and its value lie one after the other, within the dictionary
+pub record IsWithin (s : List ℕ) (at : ℕ) (i : Item) : Type 0 where
+  pub name-at : i .name ≡ at + 5
+  pub value-at : i .value ≡ at + 5 + i .«name_len» + 4
+  pub next-le : next i ≤ length s
+
+end-never : (i : Item) → entry.End ≡ entry.Item i → ⊥
+end-never i p = let z : _≡_ {A = ℕ} 0 1 = cc in omega arith
+
+broken-never : (i : Item) → entry.Broken ≡ entry.Item i → ⊥
+broken-never i p = let z : _≡_ {A = ℕ} 0 1 = cc in omega arith
+
+valueAt-within : (s : List ℕ) (at n : ℕ) (v : Size) (i : Item) → at + 5 + n + 4 ≤ length s
+    → valueAt s at n v ≡ entry.Item i → IsWithin s at i
+unfolding valueAt
+valueAt-within s at n Negative i h = λ p. absurd (broken-never i p)
+valueAt-within s at n (Of v) i h =
+    by-bool (ltb (length s - (at + 5 + n + 4)) v)
+    (λ t. rw t (λ p. absurd (broken-never i p)))
+    (λ t. by-bool (sizeFits (getD s at 0) v)
+    (λ u. rw (t, u) (λ p.
+    let e : itemAt s at n v ≡ i = cc in
+    let k : at + 5 + n + 4 + v ≤ length s = omega (arith, ltb-false (length s - (at + 5 + n + 4)) v t) in
+    rw (← e) (record { name-at = refl; value-at = refl; next-le = k })))
+    (λ u. rw (t, u) (λ p. absurd (broken-never i p))))
+
+nameAt-within : (s : List ℕ) (at : ℕ) (n : Size) (i : Item) → at + 5 ≤ length s → nameAt s at n ≡ entry.Item i
+    → IsWithin s at i
+unfolding nameAt
+nameAt-within s at Negative i h = λ p. absurd (broken-never i p)
+nameAt-within s at (Of n) i h =
+    by-bool (ltb (length s - (at + 5)) (n + 4))
+    (λ t. rw t (λ p. absurd (broken-never i p)))
+    (λ t. rw t (valueAt-within s at n (int32 (le 4 s (at + 5 + n))) i
+    (omega (arith, ltb-false (length s - (at + 5)) (n + 4) t))))
+
+pub entryAt-within : (s : List ℕ) (at : ℕ) (i : Item) → entryAt s at ≡ entry.Item i → IsWithin s at i
+unfolding entryAt
+entryAt-within s at i =
+    by-bool (leb (length s) at)
+    (λ t. rw t (λ p. absurd (broken-never i p)))
+    (λ t. by-bool (eqb (getD s at 0) 0)
+    (λ u. by-bool (eqb (length s - at) 1)
+    (λ v. rw (t, u, v) (λ p. absurd (end-never i p)))
+    (λ v. rw (t, u, v) (λ p. absurd (broken-never i p))))
+    (λ u. by-bool (ltb (length s - at) 5)
+    (λ v. rw (t, u, v) (λ p. absurd (broken-never i p)))
+    (λ v. rw (t, u, v) (nameAt-within s at (int32 (le 4 s (at + 1))) i
+    (omega (arith, leb-false (length s) at t, ltb-false (length s - at) 5 v))))))

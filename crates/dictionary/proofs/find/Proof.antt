@@ -1,0 +1,18 @@
+-- `dictionary::find` meets its contract. Assumes nothing.
+use Rattle.dictionary.specs.Dictionary.{findIn, find}
+use borrow.Author.Needs.{needs}
+use Rattle.dictionary.proofs.find.Statement.{statement}
+use Rattle.dictionary.proofs.find.Tie as tie
+
+returns : tie.Need-returns
+unfolding find findIn
+returns c = rw (← c .before .before .before .check .ensures, c .before .enum-told .given .1) (c .search .ensures)
+
+returns-2 : tie.Need-returns-2
+unfolding find findIn
+returns-2 c = rw (← c .before .before .before .check .ensures, c .before .r .given .1)
+
+pub find-spec : {M : Type 1} → statement M
+find-spec =
+    tie.close
+    (tie.spec (λ c κs. search needs) (λ c. search needs) (λ c κs. search needs) returns (λ c. search needs) returns-2)

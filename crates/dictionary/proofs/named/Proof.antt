@@ -1,0 +1,97 @@
+-- `dictionary::named` meets its contract. Assumes nothing.
+use mathlib.Core.Path.{_≡_, refl, sym, _∙_}
+use native.Mathlib.Omega.{arith}
+use denote.Ref.{now}
+use lib.ListN.{length}
+use Rattle.dictionary.specs.Dictionary.{namedIn, named}
+use Rattle.dictionary.proofs.Laws.Entry.{entryAt-within}
+use Rattle.dictionary.proofs.Laws.Walk.{named-past, named-more}
+use borrow.Author.Needs.{needs}
+use Rattle.dictionary.proofs.named.Statement.{statement}
+use Rattle.dictionary.proofs.named.Tie as tie
+
+abbrev Inv-loop : tie.InvT-loop
+Inv-loop s stop name at₀ left₀ at left = named left s at stop name ≡ named (length s) s 2 stop name
+
+abbrev μ-loop : tie.MeasureT-loop
+μ-loop s stop name at₀ left₀ at left = left
+
+loop-holds : tie.Need-loop-holds Inv-loop μ-loop
+loop-holds c = refl
+
+returns : tie.Need-returns Inv-loop μ-loop
+returns c =
+    let l = c .before .before .loop in
+    let a = c .before .before .before .before .before .args in
+    sym (named-past (l .left) (now (a .s)) (l .at) (a .stop) (now (a .name)) (c .if1 .taken)) ∙ l .inv
+
+returns-2 : tie.Need-returns-2 Inv-loop μ-loop
+unfolding namedIn
+returns-2 c =
+    let l = c .before .before .before .before .before .loop in
+    let a = c .before .before .before .before .before .before .before .before .args in
+    let e = c .before .before .entry-at in
+    let f = named-more (l .left) (now (a .s)) (l .at) (a .stop) (now (a .name)) (e .result) (search needs) (search needs) (e .ensures) in
+    sym (rw (c .enum-told .given .1) at f) ∙ l .inv
+
+returns-3 : tie.Need-returns-3 Inv-loop μ-loop
+unfolding namedIn
+returns-3 c =
+    let l = c .before .before .before .before .before .loop in
+    let a = c .before .before .before .before .before .before .before .before .args in
+    let e = c .before .before .entry-at in
+    let f = named-more (l .left) (now (a .s)) (l .at) (a .stop) (now (a .name)) (e .result) (search needs) (search needs) (e .ensures) in
+    sym (rw (c .enum-told2 .given .1) at f) ∙ l .inv
+
+returns-4 : tie.Need-returns-4 Inv-loop μ-loop
+unfolding namedIn
+returns-4 c =
+    let l = c .before .before .before .before .before .before .before .before .before .loop in
+    let a = c .before .before .before .before .before .before .before .before .before .before .before .before .args in
+    let e = c .before .before .before .before .before .before .entry-at in
+    let f = named-more (l .left) (now (a .s)) (l .at) (a .stop) (now (a .name)) (e .result) (search needs) (search needs) (e .ensures) in
+    sym (rw (c .before .before .before .before .i .given .1, ← c .before .before .part .ensures, ← c .before .same .ensures, c .if2 .taken) at f) ∙ l .inv
+
+add-at : tie.Need-add-at Inv-loop μ-loop
+add-at c =
+    let l = c .before .before .before .before .before .before .before .before .before .before .loop in
+    let a = c .before .before .before .before .before .before .before .before .before .before .before .before .before .args in
+    let i = c .before .before .before .before .before .i .given in
+    let w = entryAt-within (now (a .s)) (l .at) (i .0 .0) (sym (c .before .before .before .before .before .before .before .entry-at .ensures) ∙ i .1) in
+    search needs
+
+loop-again : tie.Need-loop-again Inv-loop μ-loop
+unfolding namedIn
+loop-again c =
+    let l = c .before .before .before .before .before .before .before .before .before .before .loop in
+    let a = c .before .before .before .before .before .before .before .before .before .before .before .before .before .args in
+    let e = c .before .before .before .before .before .before .before .entry-at in
+    let f = named-more (l .left) (now (a .s)) (l .at) (a .stop) (now (a .name)) (e .result) (search needs) (search needs) (e .ensures) in
+    sym (rw (c .before .before .before .before .before .i .given .1, ← c .before .before .before .part .ensures, ← c .before .before .same .ensures, c .before .if2 .left) at f) ∙ l .inv
+
+returns-5 : tie.Need-returns-5 Inv-loop μ-loop
+unfolding named
+returns-5 c = let z : c .before .loop .left ≡ 0 = omega arith in rw (← c .before .loop .inv, z)
+
+pub named-spec : {M : Type 1} → statement M
+named-spec =
+    tie.close
+    (tie.spec
+    Inv-loop
+    μ-loop
+    loop-holds
+    returns
+    (λ c κs. search needs)
+    (λ c. search needs)
+    returns-2
+    (λ c. search needs)
+    returns-3
+    (λ c. search needs)
+    (λ c κs. search needs)
+    (λ c κs. search needs)
+    returns-4
+    add-at
+    (λ c. search needs)
+    (λ c. search needs)
+    loop-again
+    returns-5)

@@ -1,0 +1,229 @@
+// Variant dictionaries (document 01, "Header"): a version of two bytes, items, and a 0 byte that is the last.
+//
+//   00 01 | type, name size, name, value size, value | type, … | 00
+//
+// The contracts cite specs/Dictionary. An item is told by its places in the dictionary, and nothing is copied. Refusals: 10 for
+// any fault of the form, 6 for a sound item whose name an earlier item has; the first met from the front is given.
+ghost use mathlib.Core.Path.{_≡_};
+ghost use Prim.Native.Nat.{_+_, _≤_};
+ghost use lib.ListN.{length, take, drop};
+ghost use Rattle.words.specs.Endian.{le};
+ghost use Rattle.words.specs.Size.{int32};
+ghost use Rattle.dictionary.specs.Dictionary as dictionary;
+use refusals::Outcome;
+use refusals::Refusal;
+use words::le::Size;
+
+pub mod kdf;
+
+// An item: its type, and the places of its name and value.
+pub struct Item {
+    pub kind: u8,
+    pub name: usize,
+    pub name_len: usize,
+    pub value: usize,
+    pub value_len: usize,
+}
+
+// What stands at a place of a dictionary.
+pub enum Entry {
+    Item(Item),
+    End,
+    Broken,
+}
+
+// What a name is found as: the type and place of its value, absent, or that the dictionary is refused.
+pub enum Found {
+    At {
+        kind: u8,
+        start: usize,
+        length: usize,
+    },
+    Absent,
+    Refused(Refusal),
+}
+
+// Whether a value of a type may have so many bytes.
+fn size_fits(kind: u8, n: usize) -> bool
+    ensures { λ r. ⌜ r ≡ dictionary.sizeFits kind n ⌝ }
+{
+    if kind == 0x04 {
+        return n == 4;
+    }
+    if kind == 0x05 {
+        return n == 8;
+    }
+    if kind == 0x08 {
+        return n == 1;
+    }
+    if kind == 0x0C {
+        return n == 4;
+    }
+    if kind == 0x0D {
+        return n == 8;
+    }
+    if kind == 0x18 {
+        return true;
+    }
+    kind == 0x42
+}
+
+// The item at a place whose name, of n bytes, and value size are present.
+fn value_at(s: &[u8], at: usize, n: usize) -> Entry
+    requires { ⌜ at + 5 + n + 4 ≤ length (now s) ⌝ }
+    ensures { λ r. ⌜ r ≡ dictionary.valueAt (now (s .entry)) at n (int32 (le 4 (now (s .entry)) (at + 5 + n))) ⌝ }
+{
+    let name = at + 5;
+    let value = name + n + 4;
+    match words::le::size_at(s, name + n) {
+        Size::Negative => return Entry::Broken,
+        Size::Of(v) => {
+            let len = v as usize;
+            if s.len() - value < len {
+                return Entry::Broken;
+            }
+            if size_fits(s[at], len) {
+                return Entry::Item(Item {
+                    kind: s[at],
+                    name,
+                    name_len: n,
+                    value,
+                    value_len: len,
+                });
+            }
+            return Entry::Broken;
+        }
+    }
+}
+
+// What stands at a place: an item, the last byte, or a fault.
+pub fn entry_at(s: &[u8], at: usize) -> Entry
+    ensures { λ r. ⌜ r ≡ dictionary.entryAt (now (s .entry)) at ⌝ }
+{
+    if s.len() <= at {
+        return Entry::Broken;
+    }
+    if s[at] == 0 {
+        if s.len() - at == 1 {
+            return Entry::End;
+        }
+        return Entry::Broken;
+    }
+    if s.len() - at < 5 {
+        return Entry::Broken;
+    }
+    match words::le::size_at(s, at + 1) {
+        Size::Negative => return Entry::Broken,
+        Size::Of(v) => {
+            let n = v as usize;
+            if s.len() - (at + 5) < n + 4 {
+                return Entry::Broken;
+            }
+            return value_at(s, at, n);
+        }
+    }
+}
+
+// Whether an item before the place `stop` has the name.
+fn named(s: &[u8], stop: usize, name: &[u8]) -> bool
+    ensures { λ r. ⌜ r ≡ dictionary.named (length (now (s .entry))) (now (s .entry)) 2 stop (now (name .entry)) ⌝ }
+{
+    let mut at: usize = 2;
+    let mut left = s.len();
+    while 0 < left {
+        if stop <= at {
+            return false;
+        }
+        match entry_at(s, at) {
+            Entry::End => return false,
+            Entry::Broken => return false,
+            Entry::Item(i) => {
+                if slices::same(slices::part(s, i.name, i.name_len), name) {
+                    return true;
+                }
+                at = i.value + i.value_len;
+            }
+        }
+        left -= 1;
+    }
+    false
+}
+
+// Whether a dictionary is sound, or its first fault.
+pub fn check(s: &[u8]) -> Outcome
+    ensures { λ r. ⌜ r ≡ dictionary.verdict (now (s .entry)) ⌝ }
+{
+    if s.len() < 3 {
+        return Outcome::Refused(Refusal::BrokenDictionary);
+    }
+    if s[1] != 1 {
+        return Outcome::Refused(Refusal::BrokenDictionary);
+    }
+    let mut at: usize = 2;
+    let mut left = s.len();
+    while 0 < left {
+        match entry_at(s, at) {
+            Entry::End => return Outcome::Accepted,
+            Entry::Broken => return Outcome::Refused(Refusal::BrokenDictionary),
+            Entry::Item(i) => {
+                if named(s, at, slices::part(s, i.name, i.name_len)) {
+                    return Outcome::Refused(Refusal::Repeated);
+                }
+                at = i.value + i.value_len;
+            }
+        }
+        left -= 1;
+    }
+    Outcome::Refused(Refusal::BrokenDictionary)
+}
+
+// The item of a name in a sound dictionary.
+fn search(s: &[u8], name: &[u8]) -> Found
+    ensures { λ r. ⌜ r ≡ dictionary.searchFrom (length (now (s .entry))) (now (s .entry)) 2 (now (name .entry)) ⌝ }
+{
+    let mut at: usize = 2;
+    let mut left = s.len();
+    while 0 < left {
+        match entry_at(s, at) {
+            Entry::End => return Found::Absent,
+            Entry::Broken => return Found::Absent,
+            Entry::Item(i) => {
+                if slices::same(slices::part(s, i.name, i.name_len), name) {
+                    return Found::At {
+                        kind: i.kind,
+                        start: i.value,
+                        length: i.value_len,
+                    };
+                }
+                at = i.value + i.value_len;
+            }
+        }
+        left -= 1;
+    }
+    Found::Absent
+}
+
+// Where the value of a name stands, that there is none, or why the dictionary is refused.
+pub fn find(s: &[u8], name: &[u8]) -> Found
+    ensures { λ r. ⌜ r ≡ dictionary.find (now (s .entry)) (now (name .entry)) ⌝ }
+{
+    match check(s) {
+        Outcome::Accepted => return search(s, name),
+        Outcome::Refused(r) => return Found::Refused(r),
+    }
+}
+
+// The value of a name, a part of the dictionary itself: empty where `find` answers absent or refused.
+pub fn lookup<'d>(d: &'d [u8], name: &[u8]) -> &'d [u8]
+    ensures { λ r. ⌜ now r ≡ dictionary.shown (now (d .entry)) (dictionary.find (now (d .entry)) (now (name .entry))) ⌝ }
+{
+    match find(d, name) {
+        Found::At {
+            kind: _,
+            start,
+            length,
+        } => slices::part(d, start, length),
+        Found::Absent => slices::part(d, 0, 0),
+        Found::Refused(_) => slices::part(d, 0, 0),
+    }
+}
