@@ -4,8 +4,8 @@
 Every result is computed by the Python package cryptography, which is OpenSSL: an independent implementation of RFC
 8439. What the RFC publishes is compared with its text first (EXAMPLES). The messages, cuts, positions and rows are
 those of crates/vectors_chacha20/src and crates/vectors/src, told anew here. OpenSSL carries from the counter into the
-nonce where RFC 8439's counter of 32 bits begins again, so a message that runs over the counter's end is cut there and asked
-for in two.
+nonce where RFC 8439's counter of 32 bits begins again, so a message that runs over the counter's end is cut there and
+asked for in two.
 """
 from cryptography.hazmat.primitives.ciphers import Cipher, algorithms
 
