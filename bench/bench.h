@@ -5,7 +5,11 @@
 
 #include "kdbx4.h"
 
-// One row: ours and the peer do the same work on `size` bytes.
+// How a row is counted: WORK, a call of `size` bytes; SLOPE, of many rounds less a call of few; STEP, a call of `size` rounds
+// beside that many rounds of the slope.
+enum kind { WORK, SLOPE, STEP };
+
+// One row: ours and the peer do the same work on `size` bytes or rounds.
 struct row {
     const char *name;
     const char *goal; // the ratio of instructions that ours is to stay within, or "-"
@@ -14,6 +18,7 @@ struct row {
     size_t size;
     void (*ours)(size_t size);
     void (*peer)(size_t size);
+    enum kind kind;
 };
 
 // The bytes of a state between calls: the fields of a struct of ours, and the peer's context with what it holds elsewhere.
@@ -32,13 +37,17 @@ struct family {
 };
 
 #define MESSAGE_LIMIT 8388608
+#define RESULT_LIMIT 1048576
 
 // What the rows work on: a message of one byte over the limit, a key, and the results of both sides.
-extern uint8_t message[MESSAGE_LIMIT + 1], key[64], ours[64], peers[64];
+extern uint8_t message[MESSAGE_LIMIT + 1], key[64], ours[RESULT_LIMIT], peers[RESULT_LIMIT];
 
 // Whether both results agree in their first `n` bytes; says so where they do not.
 int same(const char *what, size_t length, size_t n);
 
-// Whether a refusal answered 1 and left the result as `untouched` made it.
-int refused(const char *what, uint8_t number);
+// Both results made n bytes of the message, for work that is done in place.
+void in_place(size_t n);
+
+// Whether a refusal answered its number and left the result as `untouched` made it.
+int refused(const char *what, uint8_t number, uint8_t expected);
 void untouched(void);

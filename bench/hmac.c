@@ -24,9 +24,9 @@ static int check(void) {
     }
     if (!check_key(MESSAGE_LIMIT, MESSAGE_LIMIT)) return 0;
     untouched();
-    if (!refused("a message past the limit", kdbx4_hmac_sha256(key, 64, message, MESSAGE_LIMIT + 1, ours))) return 0;
+    if (!refused("a message past the limit", kdbx4_hmac_sha256(key, 64, message, MESSAGE_LIMIT + 1, ours), 1)) return 0;
     untouched();
-    return refused("a key past the limit", kdbx4_hmac_sha256(message, MESSAGE_LIMIT + 1, key, 64, ours));
+    return refused("a key past the limit", kdbx4_hmac_sha256(message, MESSAGE_LIMIT + 1, key, 64, ours), 1);
 }
 
 static const struct row rows[] = {

@@ -1,8 +1,14 @@
 // The functions of the static library (crates/exports), as C sees them: a slice is a pointer and a length, an array a pointer.
-// Each answers document 01's number: 0 is success, and a refusal changes no byte of `out`.
+// A number that is answered is document 01's: 0 is success, and a refusal changes no byte of `out`.
 #include <stddef.h>
 #include <stdint.h>
 
 uint8_t kdbx4_sha256(const uint8_t *m, size_t n, uint8_t out[32]);
 uint8_t kdbx4_sha512(const uint8_t *m, size_t n, uint8_t out[64]);
 uint8_t kdbx4_hmac_sha256(const uint8_t *key, size_t k, const uint8_t *m, size_t n, uint8_t out[32]);
+uint8_t kdbx4_aes_kdf(const uint8_t composite[32], const uint8_t seed[32], uint64_t rounds, uint8_t out[32]);
+
+// In place, and never refused. Of CBC the whole blocks of 16 bytes; the bytes behind the last one stay.
+void kdbx4_aes256_cbc_encrypt(const uint8_t key[32], const uint8_t iv[16], uint8_t *out, size_t n);
+void kdbx4_aes256_cbc_decrypt(const uint8_t key[32], const uint8_t iv[16], uint8_t *out, size_t n);
+void kdbx4_chacha20(const uint8_t key[32], const uint8_t nonce[12], uint64_t at, uint8_t *out, size_t n);

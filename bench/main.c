@@ -3,6 +3,7 @@
 //   harness list                    the rows and the states of every family
 //   harness check                   both sides on many inputs; status 1 where they differ
 //   harness calls NAME SIDE COUNT   COUNT calls of a row, for callgrind to count
+//   harness once NAME SIDE SIZE     one call of a row, of another size
 //   harness stack NAME SIDE         bytes of stack that one call uses
 //   harness time NAME               nanoseconds of one call of each side, the least of 30 runs of about 10 ms
 #include "bench.h"
@@ -10,11 +11,11 @@
 #include <time.h>
 #include <ucontext.h>
 
-extern const struct family sha2, hmac;
-static const struct family *const families[] = {&sha2, &hmac};
+extern const struct family sha2, hmac, aes, chacha20;
+static const struct family *const families[] = {&sha2, &hmac, &aes, &chacha20};
 #define FAMILIES (sizeof families / sizeof *families)
 
-uint8_t message[MESSAGE_LIMIT + 1], key[64], ours[64], peers[64];
+uint8_t message[MESSAGE_LIMIT + 1], key[64], ours[RESULT_LIMIT], peers[RESULT_LIMIT];
 
 int same(const char *what, size_t length, size_t n) {
     if (memcmp(ours, peers, n) == 0) return 1;
@@ -22,12 +23,17 @@ int same(const char *what, size_t length, size_t n) {
     return 0;
 }
 
+void in_place(size_t n) {
+    memcpy(ours, message, n);
+    memcpy(peers, message, n);
+}
+
 void untouched(void) { memset(ours, 0xaa, sizeof ours); }
 
-int refused(const char *what, uint8_t number) {
+int refused(const char *what, uint8_t number, uint8_t expected) {
     int kept = 1;
     for (size_t i = 0; i < sizeof ours; i++) kept &= ours[i] == 0xaa;
-    if (number == 1 && kept) return 1;
+    if (number == expected && kept) return 1;
     fprintf(stderr, "bench: %s: number %d, result %s\n", what, number, kept ? "kept" : "written");
     return 0;
 }
@@ -41,9 +47,10 @@ static const struct row *row_named(const char *name) {
 }
 
 static void list(void) {
+    static const char *const kinds[] = {"work", "slope", "step"};
     for (size_t f = 0; f < FAMILIES; f++) {
         for (const struct row *r = families[f]->rows; r->name; r++)
-            printf("row\t%s\t%s\t%s\t%zu\t%zu\n", r->name, r->goal, r->unit, r->units, r->size);
+            printf("%s\t%s\t%s\t%s\t%zu\t%zu\n", kinds[r->kind], r->name, r->goal, r->unit, r->units, r->size);
         for (const struct state *s = families[f]->states; s->name; s++)
             printf("state\t%s\t%s\t%s\t%zu\n", s->name, s->crate, s->type, s->peer);
     }
@@ -116,6 +123,7 @@ int main(int count, char **words) {
         for (long i = atol(words[4]); i > 0; i--) work(r->size);
         return 0;
     }
+    if (strcmp(what, "once") == 0 && count == 5) return work(strtoul(words[4], 0, 10)), 0;
     work(r->size);
     if (strcmp(what, "stack") == 0) return printf("%zu\n", depth(work, r->size) - depth(nothing, 0)), 0;
     return 2;

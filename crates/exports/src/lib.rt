@@ -9,8 +9,12 @@ ghost use Rattle.sha512.specs.State as sha512;
 ghost use Rattle.hmac.specs.State as hmac;
 ghost use Rattle.stream.specs.Stream as stream;
 ghost use Rattle.chacha20.specs.Rfc8439 as rfc8439;
+ghost use Rattle.fips197.specs.Fips197 as fips197;
+ghost use Rattle.cbc.specs.Sp80038a as sp80038a;
+ghost use Rattle.slices.specs.Over.{over};
 ghost use Rattle.aes_kdf.specs.AesKdf as kdf;
 ghost use Rattle.exports.specs.Lent as lent;
+use aes::RoundKeys;
 use aes_kdf::Transformation;
 use chacha20::ChaCha20;
 use refusals::Outcome;
@@ -71,6 +75,28 @@ pub extern "C" fn kdbx4_chacha20(key: &[u8; 32], nonce: &[u8; 12], at: u64, out:
     let k = *key;
     let n = *nonce;
     ChaCha20::apply(k, n, at, out);
+}
+
+// CBC encryption (SP 800-38A) under AES-256 in place: the whole blocks of `out`. Bytes behind the last one stay.
+#[no_mangle]
+pub extern "C" fn kdbx4_aes256_cbc_encrypt(key: &[u8; 32], iv: &[u8; 16], out: &mut [u8])
+    ensures { λ _. ⌜ now (out .exit) ≡ over (sp80038a.encrypt (λ s. fips197.cipher s (fips197.keyExpansion (now (key .entry)))) (now (iv .entry)) (now (out .entry))) (now (out .entry)) ⌝ }
+{
+    let k = *key;
+    let v = *iv;
+    let keys = RoundKeys::expand(k);
+    aes_cbc::encrypt_cbc(keys, v, out);
+}
+
+// CBC decryption (SP 800-38A) under AES-256 in place: the whole blocks of `out`. Bytes behind the last one stay.
+#[no_mangle]
+pub extern "C" fn kdbx4_aes256_cbc_decrypt(key: &[u8; 32], iv: &[u8; 16], out: &mut [u8])
+    ensures { λ _. ⌜ now (out .exit) ≡ over (sp80038a.decrypt (λ s. fips197.invCipher s (fips197.keyExpansion (now (key .entry)))) (now (iv .entry)) (now (out .entry))) (now (out .entry)) ⌝ }
+{
+    let k = *key;
+    let v = *iv;
+    let keys = RoundKeys::expand(k);
+    aes_cbc::decrypt_cbc(keys, v, out);
 }
 
 // AES-KDF in one call: the transformed key T of a composite key, a seed and a number of rounds.
