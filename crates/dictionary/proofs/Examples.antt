@@ -12,7 +12,7 @@ use Rattle.slices.specs.Same.{same}
 use Rattle.refusals.specs.declared.Refusal.the-variants.{BrokenDictionary, Repeated}
 use Rattle.refusals.specs.declared.Outcome.the-variants.{Accepted, Refused}
 use Rattle.dictionary.specs.Dictionary.{sizeFits, valueAt, nameAt, entryAt, namedIn, named, walkIn, walk, verdict}
-use Rattle.dictionary.specs.Kdf.{itemBytes, aesKdfUuid, uuidName, roundsName, seedName, kdfBytes}
+use Rattle.dictionary.specs.Kdf.{itemBytes, kdfBytes}
 
 -- the version and the last byte
 verdict-empty : verdict (0x00 ∷ 0x01 ∷ 0x00 ∷ []) ≡ Accepted
@@ -42,9 +42,9 @@ abbrev kdf : List ℕ
 kdf = kdfBytes (replicate 32 0x33) 1
 
 length-kdf : length kdf ≡ 93
-unfolding kdfBytes itemBytes leBytes aesKdfUuid uuidName roundsName seedName
+unfolding kdfBytes itemBytes leBytes
 length-kdf = refl
 
 verdict-kdf : verdict kdf ≡ Accepted
-unfolding verdict walk walkIn named namedIn entryAt nameAt valueAt sizeFits same int32 le kdfBytes itemBytes leBytes aesKdfUuid uuidName roundsName seedName
+unfolding verdict walk walkIn named namedIn entryAt nameAt valueAt sizeFits same int32 le kdfBytes itemBytes leBytes
 verdict-kdf = refl

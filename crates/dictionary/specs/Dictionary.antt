@@ -10,7 +10,7 @@
 --   "Looking up a name in a sound dictionary finds its value .. a broken
 --    one is refused with 10 or 6. A name that isn't there is answered as
 --    absent"                                                              find
---   "shows that stretch of the dictionary itself .. with nothing shown"   shown
+--   "shows that stretch of the dictionary itself .. with nothing shown"   shown, lookup
 -- A walk counts its items down from the dictionary's length: an item has nine bytes or more, so the count never ends it
 -- (proofs, Laws.Enough).
 -- Not here: what a KDF dictionary needs; the KDF dictionary that is written (Kdf).
@@ -25,7 +25,6 @@ use Rattle.words.specs.Size.{int32}
 use Rattle.words.specs.declared.le.Size.{Size}
 use Rattle.words.specs.declared.le.Size.the-variants.{Of, Negative}
 use Rattle.slices.specs.Same.{same}
-use Rattle.refusals.specs.declared.Refusal.{Refusal}
 use Rattle.refusals.specs.declared.Refusal.the-variants.{BrokenDictionary, Repeated}
 use Rattle.refusals.specs.declared.Outcome.{Outcome}
 use Rattle.refusals.specs.declared.Outcome.the-variants as outcome
@@ -133,3 +132,6 @@ unfoldable pub shown : List ℕ → Found → List ℕ
 shown s (found.At kind start n) = take n (drop start s)
 shown s found.Absent = []
 shown s (found.Refused r) = []
+
+unfoldable pub lookup : List ℕ → List ℕ → List ℕ
+lookup s name = shown s (find s name)

@@ -14,18 +14,18 @@ use Rattle.words.specs.Endian.{leBytes}
 unfoldable pub itemBytes : ℕ → List ℕ → List ℕ → List ℕ
 itemBytes kind name value = kind ∷ leBytes 4 (length name) ++ name ++ leBytes 4 (length value) ++ value
 
-unfoldable pub aesKdfUuid : List ℕ
+abbrev pub aesKdfUuid : List ℕ
 aesKdfUuid =
     0xC9 ∷ 0xD9 ∷ 0xF3 ∷ 0x9A ∷ 0x62 ∷ 0x8A ∷ 0x44 ∷ 0x60 ∷ 0xBF ∷ 0x74 ∷ 0x0D ∷ 0x08 ∷ 0xC1 ∷ 0x8A ∷ 0x4F ∷ 0xEA ∷ []
 
 -- the names `$UUID`, `R` and `S`
-unfoldable pub uuidName : List ℕ
+abbrev pub uuidName : List ℕ
 uuidName = 0x24 ∷ 0x55 ∷ 0x55 ∷ 0x49 ∷ 0x44 ∷ []
 
-unfoldable pub roundsName : List ℕ
+abbrev pub roundsName : List ℕ
 roundsName = 0x52 ∷ []
 
-unfoldable pub seedName : List ℕ
+abbrev pub seedName : List ℕ
 seedName = 0x53 ∷ []
 
 -- the version, the three items, and the last byte

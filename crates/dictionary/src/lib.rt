@@ -2,8 +2,10 @@
 //
 //   00 01 | type, name size, name, value size, value | type, … | 00
 //
-// The contracts cite specs/Dictionary. An item is told by its places in the dictionary, and nothing is copied. Refusals: 10 for
-// any fault of the form, 6 for a sound item whose name an earlier item has; the first met from the front is given.
+// The contracts cite specs/Dictionary. An item is told by its places in the dictionary, and nothing is copied.
+// Refusals: 10 for any fault of the form, 6 for a sound item whose name an earlier item has; the first met from the
+// front is given. A name is compared with those of all items before it, so the time of a check grows with the square of
+// their number.
 ghost use mathlib.Core.Path.{_≡_};
 ghost use Prim.Native.Nat.{_+_, _≤_};
 ghost use lib.ListN.{length, take, drop};
@@ -76,7 +78,7 @@ fn value_at(s: &[u8], at: usize, n: usize) -> Entry
     let name = at + 5;
     let value = name + n + 4;
     match words::le::size_at(s, name + n) {
-        Size::Negative => return Entry::Broken,
+        Size::Negative => Entry::Broken,
         Size::Of(v) => {
             let len = v as usize;
             if s.len() - value < len {
@@ -91,7 +93,7 @@ fn value_at(s: &[u8], at: usize, n: usize) -> Entry
                     value_len: len,
                 });
             }
-            return Entry::Broken;
+            Entry::Broken
         }
     }
 }
@@ -215,7 +217,7 @@ pub fn find(s: &[u8], name: &[u8]) -> Found
 
 // The value of a name, a part of the dictionary itself: empty where `find` answers absent or refused.
 pub fn lookup<'d>(d: &'d [u8], name: &[u8]) -> &'d [u8]
-    ensures { λ r. ⌜ now r ≡ dictionary.shown (now (d .entry)) (dictionary.find (now (d .entry)) (now (name .entry))) ⌝ }
+    ensures { λ r. ⌜ now r ≡ dictionary.lookup (now (d .entry)) (now (name .entry)) ⌝ }
 {
     match find(d, name) {
         Found::At {

@@ -1,9 +1,9 @@
--- The count of items never ends a walk: an item has nine bytes or more, so any count that reaches the dictionary's end gives
--- the same answer.
+-- The count of items never ends a walk: an item has nine bytes or more, so any count that reaches the dictionary's end
+-- gives the same answer.
 --
 -- In order: next-far (an item has nine bytes or more), named-enough, walk-enough, searchFrom-enough.
 -- Assumes nothing.
-use mathlib.Core.Path.{_≡_, refl, sym, ap, _∙_}
+use mathlib.Core.Path.{_≡_, refl, sym, ap}
 use mathlib.Core.Bool.{Bool, true, false, cond}
 use mathlib.Core.List.{List}
 use Prim.Native.Nat.{ℕ, zero, suc, _+_, _≤_}

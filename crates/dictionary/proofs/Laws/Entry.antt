@@ -1,9 +1,10 @@
 -- Where the parts of an item lie.
 --
--- In order: entryAt-past (no entry behind the end), IsWithin, entryAt-within (an item's parts lie one after the other, within
--- the dictionary).
+-- In order: entryAt-past (no entry behind the end), IsWithin, entryAt-within (an item's parts lie one after the other,
+-- within the dictionary, and its value's size fits its type).
 -- Assumes nothing.
-use mathlib.Core.Path.{_≡_, refl, sym, _∙_}
+use mathlib.Core.Path.{_≡_, refl}
+use mathlib.Core.Bool.{true}
 use mathlib.Core.List.{List}
 use Prim.Native.Nat.{ℕ, _+_, _-_, _≤_}
 use native.Mathlib.Omega.{arith}
@@ -24,11 +25,12 @@ pub entryAt-past : (s : List ℕ) (at : ℕ) → length s ≤ at → entryAt s a
 unfolding entryAt
 entryAt-past s at h = rw (le-leb (length s) at h)
 
--- the item at a place: its name and its value lie one after the other, within the dictionary
+-- the item at a place: its name and its value lie one after the other, within the dictionary, and its size fits
 pub record IsWithin (s : List ℕ) (at : ℕ) (i : Item) : Type 0 where
   pub name-at : i .name ≡ at + 5
   pub value-at : i .value ≡ at + 5 + i .«name_len» + 4
   pub next-le : next i ≤ length s
+  pub fits : sizeFits (i .kind) (i .«value_len») ≡ true
 
 end-never : (i : Item) → entry.End ≡ entry.Item i → ⊥
 end-never i p = let z : _≡_ {A = ℕ} 0 1 = cc in omega arith
@@ -47,7 +49,7 @@ valueAt-within s at n (Of v) i h =
     (λ u. rw (t, u) (λ p.
     let e : itemAt s at n v ≡ i = cc in
     let k : at + 5 + n + 4 + v ≤ length s = omega (arith, ltb-false (length s - (at + 5 + n + 4)) v t) in
-    rw (← e) (record { name-at = refl; value-at = refl; next-le = k })))
+    rw (← e) (record { name-at = refl; value-at = refl; next-le = k; fits = u })))
     (λ u. rw (t, u) (λ p. absurd (broken-never i p))))
 
 nameAt-within : (s : List ℕ) (at : ℕ) (n : Size) (i : Item) → at + 5 ≤ length s → nameAt s at n ≡ entry.Item i

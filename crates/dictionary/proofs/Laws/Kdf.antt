@@ -6,10 +6,12 @@
 --   verdict-kdfBytes      it is sound
 --   find-kdfBytes-uuid, find-kdfBytes-rounds, find-kdfBytes-seed
 --                         its items, by the places of their values
+--   kdfBytes-uuid-is, kdfBytes-rounds-is, kdfBytes-seed-is
+--                         the values at those places
 -- Each is computed over a seed of 32 bytes that are not known.
 -- Not here: reading in general (Entry, Walk).
 -- Assumes nothing.
-use mathlib.Core.Path.{_≡_, refl, sym, ap₂, _∙_, subst}
+use mathlib.Core.Path.{_≡_, refl, ap₂, subst}
 use mathlib.Core.List.{List, [], _∷_, _++_}
 use Prim.Native.Nat.{ℕ, zero, suc}
 use native.Mathlib.Omega.{arith}
@@ -19,17 +21,31 @@ use Rattle.words.specs.Size.{int32}
 use Rattle.slices.specs.Over.{over}
 use Rattle.slices.specs.Same.{same}
 use Rattle.refusals.specs.declared.Outcome.the-variants.{Accepted}
+use Rattle.dictionary.specs.declared.Found.{Found}
 use Rattle.dictionary.specs.declared.Found.the-variants.{At}
-use Rattle.dictionary.specs.Dictionary.{sizeFits, valueAt, nameAt, entryAt, namedIn, named, walkIn, walk, verdict, searchIn, searchFrom, findIn, find}
+use Rattle.dictionary.specs.Dictionary.{
+  sizeFits,
+  valueAt,
+  nameAt,
+  entryAt,
+  namedIn,
+  named,
+  walkIn,
+  walk,
+  verdict,
+  searchIn,
+  searchFrom,
+  findIn,
+  find,
+}
 use Rattle.dictionary.specs.Kdf.{itemBytes, aesKdfUuid, uuidName, roundsName, seedName, kdfBytes}
 
 -- the first n entries of a list, one by one
-entries : ℕ → List ℕ → List ℕ
+abbrev entries : ℕ → List ℕ → List ℕ
 entries zero s = []
 entries (suc n) s = getD s 0 0 ∷ entries n (drop 1 s)
 
 entries-all : (n : ℕ) (s : List ℕ) → length s ≡ n → entries n s ≡ s
-unfolding entries
 entries-all zero [] e = refl
 entries-all zero (x ∷ s) e = absurd (omega arith)
 entries-all (suc n) [] e = absurd (omega arith)
@@ -39,40 +55,42 @@ entries-all (suc n) (x ∷ s) e = ap₂ _∷_ refl (entries-all n s (omega arith
 by-entries : (P : List ℕ → Type 0) (s : List ℕ) → length s ≡ 32 → P (entries 32 s) → P s
 by-entries P s e p = subst P (entries-all 32 s e) p
 
+-- the dictionary of a seed of zeros
+abbrev pub kdfZeros : ℕ → List ℕ
+kdfZeros rounds = kdfBytes (replicate 32 0) rounds
+
 pub kdfBytes-seed : (seed : List ℕ) (rounds : ℕ) → length seed ≡ 32
-    → over (take 60 (kdfBytes (replicate 32 0) rounds) ++ seed) (kdfBytes (replicate 32 0) rounds) ≡ kdfBytes seed rounds
-unfolding over entries kdfBytes itemBytes leBytes aesKdfUuid uuidName roundsName seedName
+    → over (take 60 (kdfZeros rounds) ++ seed) (kdfZeros rounds) ≡ kdfBytes seed rounds
+unfolding over kdfBytes itemBytes leBytes
 kdfBytes-seed seed rounds e =
-    by-entries
-    (λ s. over (take 60 (kdfBytes (replicate 32 0) rounds) ++ s) (kdfBytes (replicate 32 0) rounds) ≡ kdfBytes s rounds)
-    seed e refl
+    by-entries (λ s. over (take 60 (kdfZeros rounds) ++ s) (kdfZeros rounds) ≡ kdfBytes s rounds) seed e refl
 
 pub length-kdfBytes : (seed : List ℕ) (rounds : ℕ) → length seed ≡ 32 → length (kdfBytes seed rounds) ≡ 93
-unfolding entries kdfBytes itemBytes leBytes aesKdfUuid uuidName roundsName seedName
+unfolding kdfBytes itemBytes leBytes
 length-kdfBytes seed rounds e = by-entries (λ s. length (kdfBytes s rounds) ≡ 93) seed e refl
 
 pub verdict-kdfBytes : (seed : List ℕ) (rounds : ℕ) → length seed ≡ 32 → verdict (kdfBytes seed rounds) ≡ Accepted
-unfolding verdict walk walkIn named namedIn entryAt nameAt valueAt sizeFits same int32 le entries kdfBytes itemBytes leBytes aesKdfUuid uuidName roundsName seedName
+unfolding verdict walk walkIn named namedIn entryAt nameAt valueAt sizeFits same int32 le kdfBytes itemBytes leBytes
 verdict-kdfBytes seed rounds e = by-entries (λ s. verdict (kdfBytes s rounds) ≡ Accepted) seed e refl
 
 -- the search alone: the verdict is computed once
+abbrev searched : List ℕ → ℕ → List ℕ → Found
+searched seed rounds name = searchFrom (length (kdfBytes seed rounds)) (kdfBytes seed rounds) 2 name
+
 search-uuid : (seed : List ℕ) (rounds : ℕ) → length seed ≡ 32
-    → searchFrom (length (kdfBytes seed rounds)) (kdfBytes seed rounds) 2 uuidName ≡ At 0x42 16 16
-unfolding searchFrom searchIn entryAt nameAt valueAt sizeFits same int32 le entries kdfBytes itemBytes leBytes aesKdfUuid uuidName roundsName seedName
-search-uuid seed rounds e =
-    by-entries (λ s. searchFrom (length (kdfBytes s rounds)) (kdfBytes s rounds) 2 uuidName ≡ At 0x42 16 16) seed e refl
+    → searched seed rounds uuidName ≡ At 0x42 16 16
+unfolding searchFrom searchIn entryAt nameAt valueAt sizeFits same int32 le kdfBytes itemBytes leBytes
+search-uuid seed rounds e = by-entries (λ s. searched s rounds uuidName ≡ At 0x42 16 16) seed e refl
 
 search-rounds : (seed : List ℕ) (rounds : ℕ) → length seed ≡ 32
-    → searchFrom (length (kdfBytes seed rounds)) (kdfBytes seed rounds) 2 roundsName ≡ At 0x05 42 8
-unfolding searchFrom searchIn entryAt nameAt valueAt sizeFits same int32 le entries kdfBytes itemBytes leBytes aesKdfUuid uuidName roundsName seedName
-search-rounds seed rounds e =
-    by-entries (λ s. searchFrom (length (kdfBytes s rounds)) (kdfBytes s rounds) 2 roundsName ≡ At 0x05 42 8) seed e refl
+    → searched seed rounds roundsName ≡ At 0x05 42 8
+unfolding searchFrom searchIn entryAt nameAt valueAt sizeFits same int32 le kdfBytes itemBytes leBytes
+search-rounds seed rounds e = by-entries (λ s. searched s rounds roundsName ≡ At 0x05 42 8) seed e refl
 
 search-seed : (seed : List ℕ) (rounds : ℕ) → length seed ≡ 32
-    → searchFrom (length (kdfBytes seed rounds)) (kdfBytes seed rounds) 2 seedName ≡ At 0x42 60 32
-unfolding searchFrom searchIn entryAt nameAt valueAt sizeFits same int32 le entries kdfBytes itemBytes leBytes aesKdfUuid uuidName roundsName seedName
-search-seed seed rounds e =
-    by-entries (λ s. searchFrom (length (kdfBytes s rounds)) (kdfBytes s rounds) 2 seedName ≡ At 0x42 60 32) seed e refl
+    → searched seed rounds seedName ≡ At 0x42 60 32
+unfolding searchFrom searchIn entryAt nameAt valueAt sizeFits same int32 le kdfBytes itemBytes leBytes
+search-seed seed rounds e = by-entries (λ s. searched s rounds seedName ≡ At 0x42 60 32) seed e refl
 
 pub find-kdfBytes-uuid : (seed : List ℕ) (rounds : ℕ) → length seed ≡ 32
     → find (kdfBytes seed rounds) uuidName ≡ At 0x42 16 16
@@ -91,14 +109,14 @@ find-kdfBytes-seed seed rounds e = rw (verdict-kdfBytes seed rounds e) (search-s
 
 -- the values at those places
 pub kdfBytes-uuid-is : (seed : List ℕ) (rounds : ℕ) → take 16 (drop 16 (kdfBytes seed rounds)) ≡ aesKdfUuid
-unfolding kdfBytes itemBytes leBytes aesKdfUuid uuidName roundsName seedName
+unfolding kdfBytes itemBytes leBytes
 kdfBytes-uuid-is seed rounds = refl
 
 pub kdfBytes-rounds-is : (seed : List ℕ) (rounds : ℕ) → take 8 (drop 42 (kdfBytes seed rounds)) ≡ leBytes 8 rounds
-unfolding kdfBytes itemBytes leBytes aesKdfUuid uuidName roundsName seedName
+unfolding kdfBytes itemBytes leBytes
 kdfBytes-rounds-is seed rounds = refl
 
 pub kdfBytes-seed-is : (seed : List ℕ) (rounds : ℕ) → length seed ≡ 32
     → take 32 (drop 60 (kdfBytes seed rounds)) ≡ seed
-unfolding entries kdfBytes itemBytes leBytes aesKdfUuid uuidName roundsName seedName
+unfolding kdfBytes itemBytes leBytes
 kdfBytes-seed-is seed rounds e = by-entries (λ s. take 32 (drop 60 (kdfBytes s rounds)) ≡ s) seed e refl

@@ -1,14 +1,14 @@
 -- Walks over the items of a dictionary.
 --
--- In order: named-more, walk-more, searchFrom-more (one turn, by what stands at the place).
+-- In order: named-past (nothing before `stop` is left), named-more, walk-more, searchFrom-more (one turn, by what stands
+-- at the place).
 -- Assumes nothing.
-use mathlib.Core.Path.{_≡_, refl, sym, _∙_}
+use mathlib.Core.Path.{_≡_, refl}
 use mathlib.Core.Bool.{false}
 use mathlib.Core.List.{List}
-use Prim.Native.Nat.{ℕ, zero, suc, _+_, _-_, _≤_, _<_}
+use Prim.Native.Nat.{ℕ, zero, suc, _-_, _≤_, _<_}
 use native.Mathlib.Omega.{arith}
 use native.Mathlib.Numerals.{sub-one}
-use lib.ListN.{length}
 use borrow.Author.Tests.{le-leb, lt-leb}
 use Rattle.dictionary.specs.declared.Entry.{Entry}
 use Rattle.dictionary.specs.Dictionary.{entryAt, namedIn, named, walkIn, walk, searchIn, searchFrom}

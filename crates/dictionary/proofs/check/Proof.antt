@@ -31,46 +31,57 @@ loop-holds c = rw (le-ltb _ _ (c .before .before .if1 .left), eq-eqb _ _ (c .if2
 returns-3 : tie.Need-returns-3 Inv-loop μ-loop
 unfolding walkIn
 returns-3 c =
-    let l = c .before .before .before .before .loop in
-    let a = c .before .before .before .before .before .before .before .before .before .args in
-    let e = c .before .before .entry-at in
-    let f = walk-more (l .left) (now (a .s)) (l .at) (e .result) (search needs) (e .ensures) in
+    let e = c .before .before in
+    let l = e .before .before .loop in
+    let a = e .before .before .before .before .before .before .before .args in
+    let f =
+    walk-more (l .left) (now (a .s)) (l .at) (e .entry-at .result) (search needs) (e .entry-at .ensures) in
     sym (rw (c .enum-told .given .1) at f) ∙ l .inv
 
 returns-4 : tie.Need-returns-4 Inv-loop μ-loop
 unfolding walkIn
 returns-4 c =
-    let l = c .before .before .before .before .loop in
-    let a = c .before .before .before .before .before .before .before .before .before .args in
-    let e = c .before .before .entry-at in
-    let f = walk-more (l .left) (now (a .s)) (l .at) (e .result) (search needs) (e .ensures) in
+    let e = c .before .before in
+    let l = e .before .before .loop in
+    let a = e .before .before .before .before .before .before .before .args in
+    let f =
+    walk-more (l .left) (now (a .s)) (l .at) (e .entry-at .result) (search needs) (e .entry-at .ensures) in
     sym (rw (c .enum-told2 .given .1) at f) ∙ l .inv
 
 returns-5 : tie.Need-returns-5 Inv-loop μ-loop
 unfolding walkIn
 returns-5 c =
-    let l = c .before .before .before .before .before .before .before .before .loop in
-    let a = c .before .before .before .before .before .before .before .before .before .before .before .before .before .args in
-    let e = c .before .before .before .before .before .before .entry-at in
-    let f = walk-more (l .left) (now (a .s)) (l .at) (e .result) (search needs) (e .ensures) in
-    sym (rw (c .before .before .before .before .i .given .1, ← c .before .before .part .ensures, ← c .before .named .ensures, c .if3 .taken) at f) ∙ l .inv
+    let p = c .before .before in
+    let i = p .before .before in
+    let e = i .before .before in
+    let l = e .before .before .loop in
+    let a = e .before .before .before .before .before .before .before .args in
+    let f =
+    walk-more (l .left) (now (a .s)) (l .at) (e .entry-at .result) (search needs) (e .entry-at .ensures) in
+    sym (rw (i .i .given .1, ← p .part .ensures, ← c .before .named .ensures, c .if3 .taken) at f) ∙ l .inv
 
 add-at : tie.Need-add-at Inv-loop μ-loop
 add-at c =
-    let l = c .before .before .before .before .before .before .before .before .before .loop in
-    let a = c .before .before .before .before .before .before .before .before .before .before .before .before .before .before .args in
-    let i = c .before .before .before .before .before .i .given in
-    let w = entryAt-within (now (a .s)) (l .at) (i .0 .0) (sym (c .before .before .before .before .before .before .before .entry-at .ensures) ∙ i .1) in
+    let i = c .before .before .before .before .before in
+    let e = i .before .before in
+    let l = e .before .before .loop in
+    let a = e .before .before .before .before .before .before .before .args in
+    let g = i .i .given in
+    let w = entryAt-within (now (a .s)) (l .at) (g .0 .0) (sym (e .entry-at .ensures) ∙ g .1) in
     search needs
 
 loop-again : tie.Need-loop-again Inv-loop μ-loop
 unfolding walkIn
 loop-again c =
-    let l = c .before .before .before .before .before .before .before .before .before .loop in
-    let a = c .before .before .before .before .before .before .before .before .before .before .before .before .before .before .args in
-    let e = c .before .before .before .before .before .before .before .entry-at in
-    let f = walk-more (l .left) (now (a .s)) (l .at) (e .result) (search needs) (e .ensures) in
-    sym (rw (c .before .before .before .before .before .i .given .1, ← c .before .before .before .part .ensures, ← c .before .before .named .ensures, c .before .if3 .left) at f) ∙ l .inv
+    let p = c .before .before .before in
+    let i = p .before .before in
+    let e = i .before .before in
+    let l = e .before .before .loop in
+    let a = e .before .before .before .before .before .before .before .args in
+    let f =
+    walk-more (l .left) (now (a .s)) (l .at) (e .entry-at .result) (search needs) (e .entry-at .ensures) in
+    let q = c .before .before in
+    sym (rw (i .i .given .1, ← p .part .ensures, ← q .named .ensures, c .before .if3 .left) at f) ∙ l .inv
 
 returns-6 : tie.Need-returns-6 Inv-loop μ-loop
 unfolding walk

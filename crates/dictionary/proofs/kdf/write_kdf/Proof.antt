@@ -20,7 +20,8 @@ returns c =
     let x = c .before .before .before .before .with-rounds in
     let seed = st .args .t1 in
     let n : length seed ≡ 32 = long-seed st in
-    let m : length (x .result) ≡ 93 = ap length (x .ensures) ∙ length-kdfBytes (replicate 32 0) (st .args .rounds) refl in
+    let m : length (x .result) ≡ 93 =
+    ap length (x .ensures) ∙ length-kdfBytes (replicate 32 0) (st .args .rounds) refl in
     over-behind-fits seed (x .result) _ 60 33 (omega arith) (omega arith) (c .before .copy .ensures)
     ∙ ap (λ (d : List ℕ). over (take 60 d ++ seed) d) (x .ensures) ∙ kdfBytes-seed seed (st .args .rounds) n
 
