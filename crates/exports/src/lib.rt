@@ -1,7 +1,7 @@
 // The static library for C and Rust: `rt staticlib exports` writes libexports.a.
 //
-// In C a slice is a pointer and a length, and an array a pointer. Each function answers document 01's number: 0 is success,
-// and a refusal changes no lent byte. The contracts cite the operations' own definitions and specs/Lent.
+// In C a slice is a pointer and a length, and an array a pointer. A function that can refuse answers document 01's number: 0 is
+// success, and a refusal changes no lent byte. The contracts cite the operations' own definitions and specs/Lent.
 ghost use mathlib.Core.Path.{_≡_};
 ghost use Rattle.refusals.specs.Numbers as numbers;
 ghost use Rattle.sha256.specs.State as sha256;
