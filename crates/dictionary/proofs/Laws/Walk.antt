@@ -1,7 +1,7 @@
 -- Walks over the items of a dictionary.
 --
--- In order: named-past (nothing before `stop` is left), named-more, walk-more, searchFrom-more (one turn, by what stands
--- at the place).
+-- In order: named-past (no place before `stop` is left), named-more, walk-more, searchFrom-more (one turn, by what
+-- stands at the place).
 -- Assumes nothing.
 use mathlib.Core.Path.{_≡_, refl}
 use mathlib.Core.Bool.{false}
