@@ -56,6 +56,13 @@ pub fn bytes(field: &[u8], out: &mut [u8]) -> usize {
     n
 }
 
+// The first 32 bytes of a field, zeros where it has fewer.
+pub fn array(field: &[u8]) -> [u8; 32] {
+    let mut a = [0u8; 32];
+    bytes(field, &mut a);
+    a
+}
+
 // A field's number, of at most 18 digits.
 pub fn number(field: &[u8]) -> u64 {
     let mut x: u64 = 0;

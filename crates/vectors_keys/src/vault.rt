@@ -1,4 +1,5 @@
 // The rows of a vault.
+use vectors::table::array;
 use vectors::table::field;
 use vectors::table::is_given;
 
@@ -38,11 +39,4 @@ fn transformed(name: &[u8], seed: [u8; 32], t: [u8; 32]) {
 fn tag_key(what: &[u8], name: &[u8], i: u64, base: [u8; 64]) {
     let key = keys::tag_key(i, base);
     vectors::row(what, name, 72, 0, &key);
-}
-
-// The 32 bytes of a field.
-fn array(field: &[u8]) -> [u8; 32] {
-    let mut a = [0u8; 32];
-    vectors::table::bytes(field, &mut a);
-    a
 }
