@@ -14,9 +14,17 @@ use lib.ListN.{length}
 use Rattle.words.specs.Endian.{Bytes}
 use Rattle.fips197.specs.Fips197 as fips197
 use Rattle.fips197.specs.Fips197.{cipher, invCipher}
-use Rattle.fips197.proofs.Laws.Inverse.{cipher-block, invCipher-block, invCipher-cipher, cipher-invCipher, length-cipher, length-invCipher}
-use Rattle.cbc.specs.Sp80038a.{IsBlock, Inverse, encrypt, decrypt}
+use Rattle.fips197.proofs.Laws.Inverse.{
+  cipher-block,
+  invCipher-block,
+  invCipher-cipher,
+  cipher-invCipher,
+  length-cipher,
+  length-invCipher,
+}
+use Rattle.cbc.specs.Sp80038a.{IsBlock, Inverse}
 use Rattle.cbc.proofs.Laws.Mode.{decrypt-encrypt, encrypt-decrypt}
+use Rattle.aes_cbc.specs.Aes256Cbc as aes256Cbc
 
 pub cipher-keeps : (w x : List ℕ) → length x ≡ 16 → length (cipher x w) ≡ 16
 cipher-keeps w x e = length-cipher w x
@@ -46,9 +54,9 @@ invCipher-inverse w =
     }
 
 pub aesCbc-decrypt-encrypt : (w c : List ℕ) → IsBlock c → (s : List ℕ) → length s % 16 ≡ 0 → Bytes s
-    → decrypt (λ x. invCipher x w) c (encrypt (λ x. cipher x w) c s) ≡ s
+    → aes256Cbc.decrypt w c (aes256Cbc.encrypt w c s) ≡ s
 aesCbc-decrypt-encrypt w c h s e b = decrypt-encrypt (λ x. cipher x w) (λ x. invCipher x w) (cipher-inverse w) c h s e b
 
 pub aesCbc-encrypt-decrypt : (w c : List ℕ) → IsBlock c → (s : List ℕ) → length s % 16 ≡ 0 → Bytes s
-    → encrypt (λ x. cipher x w) c (decrypt (λ x. invCipher x w) c s) ≡ s
+    → aes256Cbc.encrypt w c (aes256Cbc.decrypt w c s) ≡ s
 aesCbc-encrypt-decrypt w c h s e b = encrypt-decrypt (λ x. cipher x w) (λ x. invCipher x w) (invCipher-inverse w) c h s e b

@@ -2,16 +2,16 @@
 //
 // A run of bytes is lent and changed where it stands; the ciphertext block before it, at first the IV, goes in by value and the
 // one for what follows comes back. The whole blocks of the run count: the bytes behind the last one stay as they were.
-// The contracts cite crate cbc's encrypt, decrypt and previous over crate fips197's cipher and invCipher.
+// The contracts cite specs/Aes256Cbc, which is crate cbc's encrypt and decrypt over crate fips197's cipher and invCipher.
 // Each call builds its tables: some 2,000 instructions to encrypt, 8,000 to decrypt. Table look-ups are not constant-time.
 ghost use mathlib.Core.Path.{_≡_};
 ghost use Prim.Native.Nat.{_≤_};
 ghost use lib.ListN.{length, take};
-ghost use Rattle.fips197.specs.Fips197 as fips197;
 ghost use Rattle.aes_tables.specs.Tables as tables;
 ghost use Rattle.aes.specs.Columns.{columns};
 ghost use Rattle.slices.specs.Over.{over};
 ghost use Rattle.cbc.specs.Sp80038a as sp80038a;
+ghost use Rattle.aes_cbc.specs.Aes256Cbc as aes256Cbc;
 use aes::RoundKeys;
 use aes::block;
 use aes::block::Columns;
@@ -58,8 +58,8 @@ fn store_front(out: &mut [u8], x: Columns)
 // Encrypts the whole blocks of a run, with a lent table and key schedule.
 fn encrypt_run(te: &[u32; 256], w: &[u32; 60], prev: Columns, out: &mut [u8]) -> Columns
     requires { ⌜ now te ≡ tables.te ⌝ }
-    ensures { λ r. ⌜ columns r ≡ sp80038a.previous (columns prev) (sp80038a.encrypt (λ s. fips197.cipher s (now (w .entry))) (columns prev) (now (out .entry))) ⌝ }
-    ensures { λ _. ⌜ now (out .exit) ≡ over (sp80038a.encrypt (λ s. fips197.cipher s (now (w .entry))) (columns prev) (now (out .entry))) (now (out .entry)) ⌝ }
+    ensures { λ r. ⌜ columns r ≡ sp80038a.previous (columns prev) (aes256Cbc.encrypt (now (w .entry)) (columns prev) (now (out .entry))) ⌝ }
+    ensures { λ _. ⌜ now (out .exit) ≡ over (aes256Cbc.encrypt (now (w .entry)) (columns prev) (now (out .entry))) (now (out .entry)) ⌝ }
 {
     let n = out.len() / 16;
     let mut before = prev;
@@ -85,7 +85,7 @@ fn decrypt_run(
 ) -> Columns
     requires { ⌜ (now inverse ≡ tables.inverse) × (now td ≡ tables.td) ⌝ }
     ensures { λ r. ⌜ columns r ≡ sp80038a.previous (columns prev) (now (out .entry)) ⌝ }
-    ensures { λ _. ⌜ now (out .exit) ≡ over (sp80038a.decrypt (λ s. fips197.eqInvCipher s (now (v .entry))) (columns prev) (now (out .entry))) (now (out .entry)) ⌝ }
+    ensures { λ _. ⌜ now (out .exit) ≡ over (aes256Cbc.eqDecrypt (now (v .entry)) (columns prev) (now (out .entry))) (now (out .entry)) ⌝ }
 {
     let n = out.len() / 16;
     let mut before = prev;
@@ -103,8 +103,8 @@ fn decrypt_run(
 
 // Encrypts the whole blocks of a run. The answer is the ciphertext block for what follows.
 pub fn encrypt_cbc(keys: RoundKeys, prev: [u8; 16], out: &mut [u8]) -> [u8; 16]
-    ensures { λ r. ⌜ r ≡ sp80038a.previous prev (sp80038a.encrypt (λ s. fips197.cipher s (keys .words)) prev (now (out .entry))) ⌝ }
-    ensures { λ _. ⌜ now (out .exit) ≡ over (sp80038a.encrypt (λ s. fips197.cipher s (keys .words)) prev (now (out .entry))) (now (out .entry)) ⌝ }
+    ensures { λ r. ⌜ r ≡ sp80038a.previous prev (aes256Cbc.encrypt (keys .words) prev (now (out .entry))) ⌝ }
+    ensures { λ _. ⌜ now (out .exit) ≡ over (aes256Cbc.encrypt (keys .words) prev (now (out .entry))) (now (out .entry)) ⌝ }
 {
     let te = aes_tables::te();
     let words = keys.words;
@@ -115,7 +115,7 @@ pub fn encrypt_cbc(keys: RoundKeys, prev: [u8; 16], out: &mut [u8]) -> [u8; 16]
 // Decrypts the whole blocks of a run. The answer is the ciphertext block for what follows.
 pub fn decrypt_cbc(keys: RoundKeys, prev: [u8; 16], out: &mut [u8]) -> [u8; 16]
     ensures { λ r. ⌜ r ≡ sp80038a.previous prev (now (out .entry)) ⌝ }
-    ensures { λ _. ⌜ now (out .exit) ≡ over (sp80038a.decrypt (λ s. fips197.invCipher s (keys .words)) prev (now (out .entry))) (now (out .entry)) ⌝ }
+    ensures { λ _. ⌜ now (out .exit) ≡ over (aes256Cbc.decrypt (keys .words) prev (now (out .entry))) (now (out .entry)) ⌝ }
 {
     let te = aes_tables::te();
     let inverse = aes_tables::inverse();

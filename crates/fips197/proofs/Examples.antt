@@ -1,28 +1,12 @@
 -- FIPS 197, appendix C.3 (AES-256): the example as theorems. Assumes nothing.
 use mathlib.Core.Path.{_≡_, refl, sym, ap, _∙_}
-use mathlib.Core.List.{List, [], _∷_, _++_}
+use mathlib.Core.List.{List, [], _∷_}
 use Prim.Native.Nat.{ℕ, _+_, _*_}
 use native.Mathlib.Omega.{arith}
 use Rattle.words.specs.Endian.{be}
 use Rattle.gf256.specs.Gf256.{xTimes, gmulBits, gmul, gmulSquares, ginv, bit, affineBit, fromBits, sbox}
 use Rattle.fips197.specs.Tabulate.{tabulate}
-use Rattle.fips197.specs.Fips197.{
-  IsBlock,
-  state,
-  round,
-  rounds,
-  finalRound,
-  cipher,
-  rotWord,
-  subWord,
-  xPow,
-  rcon,
-  temp,
-  nextWord,
-  expanded,
-  keyExpansion,
-  invCipher,
-}
+use Rattle.fips197.specs.Fips197.{IsBlock, round, rounds, finalRound, cipher, rotWord, subWord, xPow, rcon, temp, nextWord, expanded, keyExpansion, invCipher}
 use Rattle.fips197.proofs.Laws.States.{state-block}
 use Rattle.fips197.proofs.Laws.Inverse.{invCipher-cipher}
 

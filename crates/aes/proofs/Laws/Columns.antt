@@ -1,11 +1,12 @@
 -- A block and the words of its four columns.
 --
--- In order: columns-is (by the bytes of the words), columns-word (by four bytes each), columns-xor, columns-key (a round key added).
+-- In order: columns-is (by the bytes of the words), columns-word (by four bytes each), columns-xor, columns-key (a round key
+-- added).
 -- Not here: words and their bytes (fips197, Laws.Words).
 -- Assumes nothing.
 use mathlib.Core.Path.{_≡_, _∙_}
 use mathlib.Core.List.{List, [], _∷_}
-use Prim.Native.Nat.{ℕ, _+_, _*_, _≤_, _<_}
+use Prim.Native.Nat.{ℕ, _+_, _*_, _≤_}
 use native.Mathlib.Nat.{add-zero}
 use lib.Bits.{bitXor}
 use lib.ListN.{length, getD, take}
@@ -24,8 +25,10 @@ columns-is p q r s = cc
 
 -- the words of the first sixteen bytes of a list
 pub columns-word : (s : List ℕ) → 16 ≤ length s → Bytes s → (a b c d : ℕ)
-    → a ≡ word (getD s 0 0) (getD s 1 0) (getD s 2 0) (getD s 3 0) → b ≡ word (getD s 4 0) (getD s 5 0) (getD s 6 0) (getD s 7 0)
-    → c ≡ word (getD s 8 0) (getD s 9 0) (getD s 10 0) (getD s 11 0) → d ≡ word (getD s 12 0) (getD s 13 0) (getD s 14 0) (getD s 15 0)
+    → a ≡ word (getD s 0 0) (getD s 1 0) (getD s 2 0) (getD s 3 0)
+    → b ≡ word (getD s 4 0) (getD s 5 0) (getD s 6 0) (getD s 7 0)
+    → c ≡ word (getD s 8 0) (getD s 9 0) (getD s 10 0) (getD s 11 0)
+    → d ≡ word (getD s 12 0) (getD s 13 0) (getD s 14 0) (getD s 15 0)
     → stateOf a b c d ≡ take 16 s
 columns-word s h l a b c d ea eb ec ed =
     rw (ea, eb, ec, ed)
@@ -45,7 +48,8 @@ unfolding xors
 columns-xor a b c d e f g h = columns-is (xor-own a e) (xor-own b f) (xor-own c g) (xor-own d h)
 
 pub columns-key : (a b c d : ℕ) (w : List ℕ) (i : ℕ)
-    → stateOf (bitXor a (getD w (4 * i) 0)) (bitXor b (getD w (4 * i + 1) 0)) (bitXor c (getD w (4 * i + 2) 0)) (bitXor d (getD w (4 * i + 3) 0))
+    → stateOf (bitXor a (getD w (4 * i) 0)) (bitXor b (getD w (4 * i + 1) 0)) (bitXor c (getD w (4 * i + 2) 0))
+    (bitXor d (getD w (4 * i + 3) 0))
     ≡ addRoundKey (stateOf a b c d) w i
 columns-key a b c d w i =
     simp add-zero

@@ -2,7 +2,7 @@
 --
 -- In order: repeated-more (once more), repeated-add (in two helpings), length-repeated.
 -- Assumes nothing.
-use mathlib.Core.Path.{_≡_, refl, ap, _∙_}
+use mathlib.Core.Path.{_≡_, ap, _∙_}
 use mathlib.Core.List.{List}
 use Prim.Native.Nat.{ℕ, zero, suc, _+_}
 use native.Mathlib.Nat.{zero-add, suc-add}
@@ -10,7 +10,8 @@ use native.Mathlib.Numerals.{add-one}
 use lib.ListN.{length}
 use Rattle.aes.specs.Repeated.{repeated}
 
-pub repeated-more : (f : List ℕ → List ℕ) (s : List ℕ) (i : ℕ) (x y : List ℕ) → x ≡ repeated f i s → y ≡ f x → y ≡ repeated f (i + 1) s
+pub repeated-more : (f : List ℕ → List ℕ) (s : List ℕ) (i : ℕ) (x y : List ℕ) → x ≡ repeated f i s → y ≡ f x
+    → y ≡ repeated f (i + 1) s
 unfolding repeated
 repeated-more f s i x y p q = rw add-one (q ∙ ap f p)
 

@@ -42,21 +42,23 @@ eqInvRound-is q v i a b c d e f g h p₀ p₁ p₂ p₃ =
 pub sub-is : {t : List ℕ} → t ≡ te → (a b c d e f g h : ℕ) → e ≡ subColumn t a b c d → f ≡ subColumn t b c d a
     → g ≡ subColumn t c d a b → h ≡ subColumn t d a b c → stateOf e f g h ≡ shiftRows (subBytes (stateOf a b c d))
 sub-is q a b c d e f g h p₀ p₁ p₂ p₃ =
-    rw (p₀, p₁, p₂, p₃) (columns-is (subColumn-te q a b c d) (subColumn-te q b c d a) (subColumn-te q c d a b) (subColumn-te q d a b c))
+    rw (p₀, p₁, p₂, p₃)
+    (columns-is (subColumn-te q a b c d) (subColumn-te q b c d a) (subColumn-te q c d a b) (subColumn-te q d a b c))
 
 pub invSub-is : {t : List ℕ} → t ≡ inverse → (a b c d e f g h : ℕ) → e ≡ invSubColumn t a d c b → f ≡ invSubColumn t b a d c
     → g ≡ invSubColumn t c b a d → h ≡ invSubColumn t d c b a → stateOf e f g h ≡ invShiftRows (invSubBytes (stateOf a b c d))
 invSub-is q a b c d e f g h p₀ p₁ p₂ p₃ =
     rw (p₀, p₁, p₂, p₃)
-    (columns-is (invSubColumn-inverse q a d c b) (invSubColumn-inverse q b a d c) (invSubColumn-inverse q c b a d) (invSubColumn-inverse q d c b a))
+    (columns-is (invSubColumn-inverse q a d c b) (invSubColumn-inverse q b a d c) (invSubColumn-inverse q c b a d)
+    (invSubColumn-inverse q d c b a))
 
 pub rounds-more : (s w : List ℕ) (i : ℕ) (x y : List ℕ) → x ≡ rounds s w i → y ≡ round x w (i + 1) → y ≡ rounds s w (i + 1)
 unfolding rounds
 rounds-more s w i x y p q = rw add-one ((rw add-one at q) ∙ ap (λ (z : List ℕ). round z w (suc i)) p)
 
 -- the rounds count down: i are left
-pub eqInvRounds-more : (s v : List ℕ) (i : ℕ) (x y : List ℕ) → 0 < i → i ≤ 13 → x ≡ eqInvRounds s v (13 - i) → y ≡ eqInvRound x v i
-    → y ≡ eqInvRounds s v (13 - (i - 1))
+pub eqInvRounds-more : (s v : List ℕ) (i : ℕ) (x y : List ℕ) → 0 < i → i ≤ 13 → x ≡ eqInvRounds s v (13 - i)
+    → y ≡ eqInvRound x v i → y ≡ eqInvRounds s v (13 - (i - 1))
 unfolding eqInvRounds
 eqInvRounds-more s v i x y h l p q =
     let n : 13 - (i - 1) ≡ suc (13 - i) = omega arith in

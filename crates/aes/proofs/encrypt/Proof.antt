@@ -9,8 +9,10 @@ use Rattle.aes.proofs.encrypt.Tie as tie
 
 returns : tie.Need-returns
 returns c =
-    c .store .ensures ∙ c .before .encrypt .ensures (c .before .before .before .before .before .before .te .ensures)
-    ∙ ap (λ (s : List ℕ). cipher s (c .before .before .before .before .before .before .before .args .keys .words)) (c .before .before .load .ensures)
+    let loaded = c .before .before in
+    let built = loaded .before .before .before .before in
+    c .store .ensures ∙ c .before .encrypt .ensures (built .te .ensures)
+    ∙ ap (λ (s : List ℕ). cipher s (built .before .args .keys .words)) (loaded .load .ensures)
 
 pub encrypt-spec : {M : Type 1} → statement M
 encrypt-spec =

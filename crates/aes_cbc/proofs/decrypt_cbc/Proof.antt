@@ -1,14 +1,15 @@
 -- `aes_cbc::decrypt_cbc` meets its contract. Assumes nothing.
-use mathlib.Core.Path.{_≡_, ap, ap₂, _∙_}
+use mathlib.Core.Path.{ap, ap₂, _∙_}
 use mathlib.Core.List.{List}
 use Prim.Native.Nat.{ℕ}
 use denote.Ref.{now}
 use Rattle.slices.specs.Over.{over}
-use Rattle.fips197.specs.Fips197.{eqInvCipher, invCipher}
+use Rattle.fips197.specs.Fips197.{invCipher}
 use Rattle.fips197.proofs.Laws.Equivalent.{eqInvCipher-dual}
 use Rattle.aes_tables.proofs.Laws.Entries.{mixed-inverse}
-use Rattle.cbc.specs.Sp80038a.{decrypt, previous}
+use Rattle.cbc.specs.Sp80038a.{previous}
 use Rattle.cbc.proofs.Laws.Mode.{decrypt-same}
+use Rattle.aes_cbc.specs.Aes256Cbc.{eqDecrypt}
 use borrow.Author.Needs.{needs}
 use Rattle.aes_cbc.proofs.decrypt_cbc.Statement.{statement}
 use Rattle.aes_cbc.proofs.decrypt_cbc.Tie as tie
@@ -31,7 +32,7 @@ returns c =
     let td = built .td .ensures ∙ mixed-inverse (built .before .before .inverse .ensures) in
     let dual = dualed .dual .ensures (built .before .before .before .te .ensures) td in (
       c .store .ensures ∙ run .0 ∙ ap (λ (p : List ℕ). previous p d) (loaded .load .ensures),
-      run .1 ∙ ap₂ (λ (v p : List ℕ). over (decrypt (λ s. eqInvCipher s v) p d) d) dual (loaded .load .ensures)
+      run .1 ∙ ap₂ (λ (v p : List ℕ). over (eqDecrypt v p d) d) dual (loaded .load .ensures)
           ∙ ap (λ (t : List ℕ). over t d) (decrypt-same _ (λ s. invCipher s w) (λ s. eqInvCipher-dual s w) _ d),
     )
 

@@ -1,10 +1,11 @@
--- `aes_cbc::decrypt_run` meets its contract. Assumes nothing.
+-- `aes_cbc::decrypt_run` meets its contract. The invariant: i blocks are decrypted where they stood, and before is the last
+-- ciphertext block among them. Assumes nothing.
 use mathlib.Core.Path.{_≡_, refl, sym, ap, _∙_}
 use mathlib.Core.List.{List}
 use Prim.Native.Nat.{ℕ, _+_, _*_, _-_, _/_, _^_, _<_, _≤_}
 use native.Mathlib.Omega.{arith}
 use denote.Ref.{now}
-use lib.ListN.{length, take, length-take, length-drop}
+use lib.ListN.{length, take}
 use Rattle.slices.specs.Over.{over}
 use Rattle.slices.proofs.Laws.Parts.{part-tail}
 use Rattle.aes.specs.Columns.{columns}
@@ -48,19 +49,24 @@ loop-holds c =
 
 loop-again : tie.Need-loop-again Inv-loop μ-loop
 loop-again c =
-    let start = c .before .before .before .before .before .before .before .before .before .before .before .before in
-    let l = c .before .before .before .before .before .before .before .before .before .before .loop in
+    let stored = c .before .before in
+    let xored = stored .before in
+    let decrypted = xored .before .before in
+    let loaded = decrypted .before in
+    let l = loaded .before .before .before .before .loop in
+    let start = loaded .before .before .before .before .before .before in
     let d = now (start .args .out) in
     let v = now (start .args .v) in
     let prev = columns (start .args .prev) in
     let fits : 16 * l .i ≤ length d = omega arith in
     let more : 16 * (l .i + 1) ≤ length d = omega arith in
-    let block = c .before .before .before .before .before .before .load-front .ensures ∙ ap (take 16) (part-tail (16 * l .i) (l .out)) in
+    let block = loaded .load-front .ensures ∙ ap (take 16) (part-tail (16 * l .i) (l .out)) in
     let whole =
-    decrypt-turn (under v) (keeps v) prev refl d (l .i) fits (l .out) (l .inv .1 .1 .1 .1 .0) (columns (c .before .before .before .before .before .before .load-front .result))
-    (columns (c .before .before .before .before .before .decrypt .result)) (columns (l .before)) (columns (c .before .before .before .xor .result)) (c .before .before .store-front .last .0)
-    (length (l .out) - 16 * l .i) block (c .before .before .before .before .before .decrypt .ensures (start .pre .0) (start .pre .1)) (l .inv .1 .1 .1 .0)
-    (c .before .before .before .xor .ensures) (omega arith) (c .before .before .store-front .ensures) in (
+    decrypt-turn (under v) (keeps v) prev refl d (l .i) fits (l .out) (l .inv .1 .1 .1 .1 .0)
+    (columns (loaded .load-front .result)) (columns (decrypted .decrypt .result)) (columns (l .before)) (columns (xored .xor .result))
+    (stored .store-front .last .0) (length (l .out) - 16 * l .i)
+    block (decrypted .decrypt .ensures (start .pre .0) (start .pre .1)) (l .inv .1 .1 .1 .0) (xored .xor .ensures)
+    (omega arith) (stored .store-front .ensures) in (
       search needs,
       (
         omega arith,

@@ -1,24 +1,24 @@
 -- `aes_cbc::encrypt_cbc` meets its contract. Assumes nothing.
-use mathlib.Core.Path.{_≡_, ap, ap₂, _∙_}
+use mathlib.Core.Path.{ap, _∙_}
 use mathlib.Core.List.{List}
 use Prim.Native.Nat.{ℕ}
 use denote.Ref.{now}
 use Rattle.slices.specs.Over.{over}
-use Rattle.fips197.specs.Fips197.{cipher}
-use Rattle.cbc.specs.Sp80038a.{encrypt, previous}
+use Rattle.cbc.specs.Sp80038a.{previous}
+use Rattle.aes_cbc.specs.Aes256Cbc.{encrypt}
 use borrow.Author.Needs.{needs}
 use Rattle.aes_cbc.proofs.encrypt_cbc.Statement.{statement}
 use Rattle.aes_cbc.proofs.encrypt_cbc.Tie as tie
 
 returns : tie.Need-returns
 returns c =
-    let a = c .before .before .before .before .before .before .before .before .before .before .before .args in
+    let loaded = c .before .before .before .before .before in
+    let a = loaded .before .before .before .before .before .before .args in
     let d = now (a .out) in
     let w = a .keys .words in
-    let run = c .before .before .before .encrypt-run .ensures in
-    let load = c .before .before .before .before .before .load .ensures in (
-      c .store .ensures ∙ run .0 ∙ ap (λ (p : List ℕ). previous p (encrypt (λ s. cipher s w) p d)) load,
-      run .1 ∙ ap (λ (p : List ℕ). over (encrypt (λ s. cipher s w) p d) d) load,
+    let run = c .before .before .before .encrypt-run .ensures in (
+      c .store .ensures ∙ run .0 ∙ ap (λ (p : List ℕ). previous p (encrypt w p d)) (loaded .load .ensures),
+      run .1 ∙ ap (λ (p : List ℕ). over (encrypt w p d) d) (loaded .load .ensures),
     )
 
 pub encrypt-cbc-spec : {M : Type 1} → statement M

@@ -1,10 +1,11 @@
--- `aes_cbc::encrypt_run` meets its contract. Assumes nothing.
+-- `aes_cbc::encrypt_run` meets its contract. The invariant: i blocks are encrypted where they stood, and before is the last of them.
+-- Assumes nothing.
 use mathlib.Core.Path.{_≡_, refl, sym, ap, _∙_}
 use mathlib.Core.List.{List}
 use Prim.Native.Nat.{ℕ, _+_, _*_, _-_, _/_, _^_, _<_, _≤_}
 use native.Mathlib.Omega.{arith}
 use denote.Ref.{now}
-use lib.ListN.{length, take, length-take, length-drop}
+use lib.ListN.{length, take}
 use Rattle.slices.specs.Over.{over}
 use Rattle.slices.proofs.Laws.Parts.{part-tail}
 use Rattle.aes.specs.Columns.{columns}
@@ -49,19 +50,24 @@ loop-holds c =
 
 loop-again : tie.Need-loop-again Inv-loop μ-loop
 loop-again c =
-    let start = c .before .before .before .before .before .before .before .before .before .before .before .before in
-    let l = c .before .before .before .before .before .before .before .before .before .before .loop in
+    let stored = c .before .before in
+    let encrypted = stored .before .before in
+    let xored = encrypted .before in
+    let loaded = xored .before in
+    let l = loaded .before .before .before .before .loop in
+    let start = loaded .before .before .before .before .before .before in
     let d = now (start .args .out) in
     let w = now (start .args .w) in
     let prev = columns (start .args .prev) in
     let fits : 16 * l .i ≤ length d = omega arith in
     let more : 16 * (l .i + 1) ≤ length d = omega arith in
-    let block = c .before .before .before .before .before .before .load-front .ensures ∙ ap (take 16) (part-tail (16 * l .i) (l .out)) in
+    let block = loaded .load-front .ensures ∙ ap (take 16) (part-tail (16 * l .i) (l .out)) in
     let turn =
-    encrypt-turn (under w) (keeps w) prev refl d (l .i) fits (l .out) (l .inv .1 .1 .1 .1 .0) (columns (c .before .before .before .before .before .before .load-front .result))
-    (columns (l .before)) (columns (c .before .before .before .before .before .xor .result)) (columns (c .before .before .before .before .encrypt .result)) (c .before .before .store-front .last .0)
-    (length (l .out) - 16 * l .i) block (l .inv .1 .1 .1 .0) (c .before .before .before .before .before .xor .ensures) (c .before .before .before .before .encrypt .ensures (start .pre))
-    (omega arith) (c .before .before .store-front .ensures) in (
+    encrypt-turn (under w) (keeps w) prev refl d (l .i) fits (l .out) (l .inv .1 .1 .1 .1 .0)
+    (columns (loaded .load-front .result)) (columns (l .before)) (columns (xored .xor .result)) (columns (encrypted .encrypt .result))
+    (stored .store-front .last .0) (length (l .out) - 16 * l .i)
+    block (l .inv .1 .1 .1 .0) (xored .xor .ensures) (encrypted .encrypt .ensures (start .pre))
+    (omega arith) (stored .store-front .ensures) in (
       search needs,
       (
         omega arith,

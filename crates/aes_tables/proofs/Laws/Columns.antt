@@ -6,7 +6,7 @@
 --   subColumn-te, invSubColumn-inverse      a column of the last round
 --   subWord-is, invMixWord-is               a word of the key schedule and of its dual
 -- Assumes nothing.
-use mathlib.Core.Path.{_≡_, refl, sym, _∙_, ap, ap₂}
+use mathlib.Core.Path.{_≡_, sym, _∙_, ap}
 use mathlib.Core.List.{List}
 use Prim.Native.Nat.{ℕ, _+_, _*_, _/_, _%_, _^_, _<_}
 use native.Mathlib.Omega.{arith}
@@ -14,7 +14,7 @@ use lib.Bits.{bitXor, xor-zero-r}
 use lib.ListN.{getD}
 use lib.Pow.{shr-shr}
 use Rattle.words.proofs.Laws.Xor.{xor-assoc}
-use Rattle.gf256.specs.Gf256.{sum4, gmul, sbox, invSbox}
+use Rattle.gf256.specs.Gf256.{sum4, sbox, invSbox}
 use Rattle.gf256.proofs.Laws.Sums.{sum4-ap}
 use Rattle.gf256.proofs.Laws.Sbox.{sbox-lt, invSbox-lt, invSbox-sbox}
 use Rattle.fips197.specs.Fips197.{word, byteOf, mixByte, subWord, invMixByte, invMixWord}
@@ -59,12 +59,12 @@ column-is e f g h k u v w p q r =
     (bytes-own k)
 
 -- a column through SubBytes() and MixColumns(): byte r
-abbrev pub mixOf : ℕ → ℕ → ℕ → ℕ → ℕ → ℕ
-mixOf a b c d r = mixByte r (sbox (byteOf a 0)) (sbox (byteOf b 1)) (sbox (byteOf c 2)) (sbox (byteOf d 3))
+abbrev pub mixedByte : ℕ → ℕ → ℕ → ℕ → ℕ → ℕ
+mixedByte a b c d r = mixByte r (sbox (byteOf a 0)) (sbox (byteOf b 1)) (sbox (byteOf c 2)) (sbox (byteOf d 3))
 
 pub column-te : {t : List ℕ} → t ≡ te → (a b c d k w : ℕ) → IsColumn t a b c d k w
-    → HasBytes w (bitXor (mixOf a b c d 0) (byteOf k 0)) (bitXor (mixOf a b c d 1) (byteOf k 1)) (bitXor (mixOf a b c d 2) (byteOf k 2))
-    (bitXor (mixOf a b c d 3) (byteOf k 3))
+    → HasBytes w (bitXor (mixedByte a b c d 0) (byteOf k 0)) (bitXor (mixedByte a b c d 1) (byteOf k 1)) (bitXor (mixedByte a b c d 2) (byteOf k 2))
+    (bitXor (mixedByte a b c d 3) (byteOf k 3))
 column-te e a b c d k w p =
     let A = te-entry e (byteOf a 0) (byteOf-lt a 0) in
     let B = te-entry e (byteOf b 1) (byteOf-lt b 1) in
@@ -77,12 +77,12 @@ column-te e a b c d k w p =
     (ap (λ (x : ℕ). bitXor x (byteOf k 3)) (sum4-ap (A .at3) (B .at2) (C .at1) (D .at0)))
 
 -- a column through InvSubBytes() and InvMixColumns(): byte r
-abbrev pub invMixOf : ℕ → ℕ → ℕ → ℕ → ℕ → ℕ
-invMixOf a b c d r = invMixByte r (invSbox (byteOf a 0)) (invSbox (byteOf b 1)) (invSbox (byteOf c 2)) (invSbox (byteOf d 3))
+abbrev pub invMixedByte : ℕ → ℕ → ℕ → ℕ → ℕ → ℕ
+invMixedByte a b c d r = invMixByte r (invSbox (byteOf a 0)) (invSbox (byteOf b 1)) (invSbox (byteOf c 2)) (invSbox (byteOf d 3))
 
 pub column-td : {t : List ℕ} → t ≡ td → (a b c d k w : ℕ) → IsColumn t a b c d k w
-    → HasBytes w (bitXor (invMixOf a b c d 0) (byteOf k 0)) (bitXor (invMixOf a b c d 1) (byteOf k 1))
-    (bitXor (invMixOf a b c d 2) (byteOf k 2)) (bitXor (invMixOf a b c d 3) (byteOf k 3))
+    → HasBytes w (bitXor (invMixedByte a b c d 0) (byteOf k 0)) (bitXor (invMixedByte a b c d 1) (byteOf k 1))
+    (bitXor (invMixedByte a b c d 2) (byteOf k 2)) (bitXor (invMixedByte a b c d 3) (byteOf k 3))
 column-td e a b c d k w p =
     let A = td-entry e (byteOf a 0) (byteOf-lt a 0) in
     let B = td-entry e (byteOf b 1) (byteOf-lt b 1) in
@@ -128,6 +128,9 @@ subWord-is e w = rw (te-sbox e w 0, te-sbox e w 1, te-sbox e w 2, te-sbox e w 3)
 word-is : {w a b c d : ℕ} → w < 2 ^ 32 → HasBytes w a b c d → w ≡ word a b c d
 word-is {w} h p = sym (word-bytes w h) ∙ rw (p .at0, p .at1, p .at2, p .at3)
 
+undone : (z w r : ℕ) → byteOf z r ≡ sbox (byteOf w r) → invSbox (byteOf z r) ≡ byteOf w r
+undone z w r e = ap invSbox e ∙ invSbox-sbox (byteOf w r) (byteOf-lt w r)
+
 -- the table td at the S-box's values has the products of the bytes themselves
 pub invMixWord-is : {t : List ℕ} → t ≡ td → (w z r : ℕ) → z ≡ subWord w → r < 2 ^ 32 → IsColumn t z z z z 0 r → r ≡ invMixWord w
 unfolding subWord invMixWord
@@ -135,14 +138,14 @@ invMixWord-is e' w z r e h p =
     let S =
     bytes-word (sbox-lt (byteOf w 0) (byteOf-lt w 0)) (sbox-lt (byteOf w 1) (byteOf-lt w 1)) (sbox-lt (byteOf w 2) (byteOf-lt w 2))
     (sbox-lt (byteOf w 3) (byteOf-lt w 3)) in
-    let b₀ : invSbox (byteOf z 0) ≡ byteOf w 0 = ap invSbox (ap (λ (x : ℕ). byteOf x 0) e ∙ S .at0) ∙ invSbox-sbox (byteOf w 0) (byteOf-lt w 0) in
-    let b₁ : invSbox (byteOf z 1) ≡ byteOf w 1 = ap invSbox (ap (λ (x : ℕ). byteOf x 1) e ∙ S .at1) ∙ invSbox-sbox (byteOf w 1) (byteOf-lt w 1) in
-    let b₂ : invSbox (byteOf z 2) ≡ byteOf w 2 = ap invSbox (ap (λ (x : ℕ). byteOf x 2) e ∙ S .at2) ∙ invSbox-sbox (byteOf w 2) (byteOf-lt w 2) in
-    let b₃ : invSbox (byteOf z 3) ≡ byteOf w 3 = ap invSbox (ap (λ (x : ℕ). byteOf x 3) e ∙ S .at3) ∙ invSbox-sbox (byteOf w 3) (byteOf-lt w 3) in
+    let b₀ : invSbox (byteOf z 0) ≡ byteOf w 0 = undone z w 0 (ap (λ (x : ℕ). byteOf x 0) e ∙ S .at0) in
+    let b₁ : invSbox (byteOf z 1) ≡ byteOf w 1 = undone z w 1 (ap (λ (x : ℕ). byteOf x 1) e ∙ S .at1) in
+    let b₂ : invSbox (byteOf z 2) ≡ byteOf w 2 = undone z w 2 (ap (λ (x : ℕ). byteOf x 2) e ∙ S .at2) in
+    let b₃ : invSbox (byteOf z 3) ≡ byteOf w 3 = undone z w 3 (ap (λ (x : ℕ). byteOf x 3) e ∙ S .at3) in
     let q = column-td e' z z z z 0 r p in
     word-is h
     (bytes-is q
-    (xor-zero-r (invMixOf z z z z 0) ∙ rw (b₀, b₁, b₂, b₃))
-    (xor-zero-r (invMixOf z z z z 1) ∙ rw (b₀, b₁, b₂, b₃))
-    (xor-zero-r (invMixOf z z z z 2) ∙ rw (b₀, b₁, b₂, b₃))
-    (xor-zero-r (invMixOf z z z z 3) ∙ rw (b₀, b₁, b₂, b₃)))
+    (xor-zero-r (invMixedByte z z z z 0) ∙ rw (b₀, b₁, b₂, b₃))
+    (xor-zero-r (invMixedByte z z z z 1) ∙ rw (b₀, b₁, b₂, b₃))
+    (xor-zero-r (invMixedByte z z z z 2) ∙ rw (b₀, b₁, b₂, b₃))
+    (xor-zero-r (invMixedByte z z z z 3) ∙ rw (b₀, b₁, b₂, b₃)))

@@ -7,10 +7,12 @@ use Rattle.aes_tables.proofs.inv_mix_entry.Tie as tie
 
 returns : tie.Need-returns
 returns c =
-    let a = c .before .before .before .before .args in
+    let third = c .before in
+    let second = third .before in
+    let first = second .before in
     c .u32-of .ensures
-    ∙ invMixEntry-is (a .b) (c .before .before .before .times2 .result) (c .before .before .times22 .result) (c .before .times23 .result) (search needs)
-    (c .before .before .before .times2 .ensures) (c .before .before .times22 .ensures) (c .before .times23 .ensures)
+    ∙ invMixEntry-is (first .before .args .b) (first .times2 .result) (second .times22 .result) (third .times23 .result) (search needs)
+    (first .times2 .ensures) (second .times22 .ensures) (third .times23 .ensures)
 
 pub inv-mix-entry-spec : {M : Type 1} → statement M
 inv-mix-entry-spec =

@@ -1,4 +1,4 @@
--- `aes_tables::inverse` meets its contract. Assumes nothing.
+-- `aes_tables::inverse` meets its contract. The invariant: each number below i stands at its value. Assumes nothing.
 use Prim.Native.Nat.{ℕ, _-_, _<_, _≤_}
 use mathlib.Core.Path.{_≡_}
 use native.Mathlib.Omega.{arith}

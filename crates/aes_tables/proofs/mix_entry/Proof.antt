@@ -7,7 +7,8 @@ use Rattle.aes_tables.proofs.mix_entry.Tie as tie
 
 returns : tie.Need-returns
 returns c =
-    c .u32-of .ensures ∙ mixEntry-is (c .before .before .args .s) (c .before .times2 .result) (search needs) (c .before .times2 .ensures)
+    let doubled = c .before .times2 in
+    c .u32-of .ensures ∙ mixEntry-is (c .before .before .args .s) (doubled .result) (search needs) (doubled .ensures)
 
 pub mix-entry-spec : {M : Type 1} → statement M
 mix-entry-spec = tie.close (tie.spec (λ c κs. search needs) (λ c κs. search needs) returns)

@@ -1,8 +1,8 @@
--- `aes_tables::te` meets its contract. Assumes nothing.
+-- `aes_tables::te` meets its contract. The invariant: the first i entries are there. Assumes nothing.
 use mathlib.Core.Path.{_≡_, refl, ap, _∙_}
 use Prim.Native.Nat.{ℕ, _-_, _<_, _≤_}
 use native.Mathlib.Omega.{arith}
-use lib.ListN.{length, getD, take, length-set, length-replicate}
+use lib.ListN.{length, take, length-set, length-replicate}
 use Rattle.fips197.specs.Tabulate.{tabulate}
 use Rattle.fips197.proofs.Laws.Tabulate.{tabulate-more, tabulate-all}
 use borrow.Author.Needs.{needs}

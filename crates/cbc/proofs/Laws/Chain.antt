@@ -1,14 +1,14 @@
 -- The CBC mode over blocks: decryption undoes encryption, encryption decryption, and both may be cut at any block.
 --
 -- In order:
---   lastBlock-append, lastBlock-size
+--   lastBlock-append, lastBlock-size, lastBlock-block
 --   decryptBlocks-encryptBlocks, encryptBlocks-decryptBlocks        each undoes the other
 --   encryptBlocks-all, decryptBlocks-all                            blocks
 --   decryptBlocks-append, encryptBlocks-append                      in two parts
 --   length-decryptBlocks, length-encryptBlocks, decryptBlocks-sizes, encryptBlocks-sizes
 -- Not here: cutting and joining (Blocks); strings (Mode).
 -- Assumes nothing.
-use mathlib.Core.Path.{_≡_, refl, sym, _∙_, ap}
+use mathlib.Core.Path.{_≡_, refl, ap}
 use mathlib.Core.List.{List, [], _∷_, _++_}
 use Prim.Native.Nat.{ℕ, suc, _≤_}
 use native.Mathlib.Omega.{arith}

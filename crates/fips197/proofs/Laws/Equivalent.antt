@@ -6,7 +6,7 @@
 --   invMixColumns-addRoundKey                            a round key mixed beforehand
 --   eqInvCipher-dual, length-eqInvCipher                 the theorem
 -- Assumes nothing.
-use mathlib.Core.Path.{_≡_, refl, sym, _∙_, ap, ap₂}
+use mathlib.Core.Path.{_≡_, refl, sym, _∙_, ap}
 use mathlib.Core.List.{List}
 use Prim.Native.Nat.{ℕ, zero, suc, _+_, _*_, _-_, _<_, _≤_}
 use native.Mathlib.Omega.{arith}

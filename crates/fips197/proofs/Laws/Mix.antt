@@ -7,7 +7,7 @@
 --   mixByte-lt, invMixByte-lt
 --   row, invMixByte-mixByte, mixByte-invMixByte    each matrix undoes the other
 -- Assumes nothing.
-use mathlib.Core.Path.{_≡_, refl, sym, _∙_, ap}
+use mathlib.Core.Path.{_≡_, refl, sym, _∙_}
 use mathlib.Core.Bool.{Bool}
 use Prim.Native.Nat.{ℕ, zero, suc, _^_, _<_}
 use native.Mathlib.Omega.{arith}
@@ -16,7 +16,7 @@ use lib.Dec.{T, eqb, lit<}
 use Rattle.words.proofs.Laws.Tests.{below}
 use Rattle.gf256.specs.Gf256.{sum4, xTimes, gmulBits, gmul}
 use Rattle.gf256.proofs.Laws.Sums.{sum4-ap, sum4-xor, sum4-lt}
-use Rattle.gf256.proofs.Laws.Field.{gmul-xor, gmul-lt, Linear, linear-same}
+use Rattle.gf256.proofs.Laws.Field.{gmul-lt, Linear, linear-self, linear-by, linear-same}
 use Rattle.fips197.specs.Fips197.{mixByte, invMixByte}
 
 -- functions of four bytes that keep sums
@@ -65,13 +65,6 @@ module _ (f g : ℕ → ℕ → ℕ → ℕ → ℕ) (p : Linear4 f) (q : Linear
       (linear-same (λ s. f 0 0 0 s) (λ s. g 0 0 0 s) (linear-3 f p) (linear-3 g q) (t .1 .1 .1) d hd)
       ∙ sym (linear4-axes g q a b c d)
 
--- a product by a constant, a byte as it is
-linear-by : (k : ℕ) → Linear (gmul k)
-linear-by k = record { sum = gmul-xor k }
-
-linear-one : Linear (λ s. s)
-linear-one = record { sum = λ a b. refl }
-
 -- a sum of four linear functions, of a byte each
 linear4-sum4 : (f g h k : ℕ → ℕ) → Linear f → Linear g → Linear h → Linear k → Linear4 (λ a b c d. sum4 (f a) (g b) (h c) (k d))
 linear4-sum4 f g h k p q r t =
@@ -81,10 +74,10 @@ linear4-sum4 f g h k p q r t =
     }
 
 pub mixByte-linear : (r : ℕ) → Linear4 (mixByte r)
-mixByte-linear zero = linear4-sum4 (gmul 2) (gmul 3) (λ s. s) (λ s. s) (linear-by 2) (linear-by 3) linear-one linear-one
-mixByte-linear (suc zero) = linear4-sum4 (λ s. s) (gmul 2) (gmul 3) (λ s. s) linear-one (linear-by 2) (linear-by 3) linear-one
-mixByte-linear (suc (suc zero)) = linear4-sum4 (λ s. s) (λ s. s) (gmul 2) (gmul 3) linear-one linear-one (linear-by 2) (linear-by 3)
-mixByte-linear (suc (suc (suc r))) = linear4-sum4 (gmul 3) (λ s. s) (λ s. s) (gmul 2) (linear-by 3) linear-one linear-one (linear-by 2)
+mixByte-linear zero = linear4-sum4 (gmul 2) (gmul 3) (λ s. s) (λ s. s) (linear-by 2) (linear-by 3) linear-self linear-self
+mixByte-linear (suc zero) = linear4-sum4 (λ s. s) (gmul 2) (gmul 3) (λ s. s) linear-self (linear-by 2) (linear-by 3) linear-self
+mixByte-linear (suc (suc zero)) = linear4-sum4 (λ s. s) (λ s. s) (gmul 2) (gmul 3) linear-self linear-self (linear-by 2) (linear-by 3)
+mixByte-linear (suc (suc (suc r))) = linear4-sum4 (gmul 3) (λ s. s) (λ s. s) (gmul 2) (linear-by 3) linear-self linear-self (linear-by 2)
 
 -- four products, whatever the factors
 products-linear : (j k m n : ℕ) → Linear4 (λ a b c d. sum4 (gmul j a) (gmul k b) (gmul m c) (gmul n d))

@@ -1,7 +1,7 @@
 -- Words and their four bytes.
 --
 -- In order:
---   word-lt, byteOf-lt          bounds
+--   byteOf-lt                   a byte of a word is one
 --   bytes-own, bytes-word       a word's own bytes; the word of four bytes
 --   word-bytes                  the word of a word's bytes
 --   bytes-is                    equal bytes
@@ -15,9 +15,6 @@ use lib.Bits.{bitXor, xor-shr, xor-mod}
 use lib.Pow.{shr-shr}
 use Rattle.fips197.specs.Fips197.{word, byteOf}
 use Rattle.fips197.specs.HasBytes.{HasBytes}
-
-pub word-lt : {a b c d : ℕ} → a < 256 → b < 256 → c < 256 → d < 256 → word a b c d < 2 ^ 32
-word-lt p q r s = omega arith
 
 pub byteOf-lt : (w r : ℕ) → byteOf w r < 256
 byteOf-lt w zero = omega arith

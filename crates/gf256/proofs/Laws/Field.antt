@@ -2,14 +2,14 @@
 -- agree at every byte: eight values are tested, not 256.
 --
 -- In order:
---   gmul-xor, gmul-sum4, gmul-lt       products
---   Linear, linear-self, linear-zero, linear-gmul, linear-xor, linear-sum4
+--   gmul-xor, gmul-lt                  products
+--   Linear, linear-self, linear-by, linear-gmul, linear-xor
 --   linear-same                        by their values at powers of two
 --   gmul-2, gmul-3, gmul-9, gmul-11, gmul-13, gmul-14    products by doublings
 -- Not here: sums of four (Sums).
 -- Assumes nothing.
 use mathlib.Core.Path.{_≡_, refl, sym, _∙_, ap, ap₂}
-use Prim.Native.Nat.{ℕ, zero, suc, _+_, _*_, _/_, _%_, _^_, _<_}
+use Prim.Native.Nat.{ℕ, zero, suc, _*_, _/_, _%_, _^_, _<_}
 use native.Mathlib.Nat.{mod-lt, zero-mul, one-mul, div-add-mod', pow-succ', div-lt-iff-lt-mul}
 use native.Mathlib.Omega.{arith}
 use lib.Bits.{bitXor, differ, xor-shr, xor-self, xor-zero-r, xor-lt, xor-shifted}
@@ -17,8 +17,7 @@ use lib.Dec.{T, eqb}
 use lib.Pow.{pow-pos}
 use Rattle.words.proofs.Laws.Tests.{below, same-below}
 use Rattle.words.proofs.Laws.Xor.{xor-low, xor-mid}
-use Rattle.gf256.specs.Gf256.{sum4, reduced, xTimes, gmulBits, gmul}
-use Rattle.gf256.proofs.Laws.Sums.{sum4-ap}
+use Rattle.gf256.specs.Gf256.{reduced, xTimes, gmulBits, gmul}
 
 bit-lt : (n : ℕ) → n % 2 < 2
 bit-lt n = omega arith
@@ -42,12 +41,6 @@ gmulBits-xor (suc n) a b c =
 pub gmul-xor : (k a b : ℕ) → gmul k (bitXor a b) ≡ bitXor (gmul k a) (gmul k b)
 unfolding gmul
 gmul-xor k a b = gmulBits-xor 8 k a b
-
-pub gmul-sum4 : (k a b c d : ℕ) → gmul k (sum4 a b c d) ≡ sum4 (gmul k a) (gmul k b) (gmul k c) (gmul k d)
-gmul-sum4 k a b c d =
-    gmul-xor k (bitXor (bitXor a b) c) d
-    ∙ ap (λ (x : ℕ). bitXor x (gmul k d))
-    (gmul-xor k (bitXor a b) c ∙ ap (λ (x : ℕ). bitXor x (gmul k c)) (gmul-xor k a b))
 
 -- a bit times a byte is a byte
 bit-times-lt : (p a : ℕ) → p < 2 → a < 256 → p * a < 256
@@ -77,8 +70,8 @@ pub record Linear (f : ℕ → ℕ) : Type 0 where
 pub linear-self : Linear (λ s. s)
 linear-self = record { sum = λ a b. refl }
 
-pub linear-zero : Linear (λ s. 0)
-linear-zero = record { sum = λ a b. refl }
+pub linear-by : (k : ℕ) → Linear (gmul k)
+linear-by k = record { sum = gmul-xor k }
 
 pub linear-gmul : (k : ℕ) (f : ℕ → ℕ) → Linear f → Linear (λ s. gmul k (f s))
 linear-gmul k f l = record { sum = λ a b. ap (gmul k) (l .sum a b) ∙ gmul-xor k (f a) (f b) }
@@ -86,11 +79,6 @@ linear-gmul k f l = record { sum = λ a b. ap (gmul k) (l .sum a b) ∙ gmul-xor
 pub linear-xor : (f g : ℕ → ℕ) → Linear f → Linear g → Linear (λ s. bitXor (f s) (g s))
 linear-xor f g p q =
     record { sum = λ a b. ap₂ bitXor (p .sum a b) (q .sum a b) ∙ xor-mid (f a) (f b) (g a) (g b) }
-
-pub linear-sum4 : (f g h k : ℕ → ℕ) → Linear f → Linear g → Linear h → Linear k → Linear (λ s. sum4 (f s) (g s) (h s) (k s))
-linear-sum4 f g h k p q r t =
-    linear-xor (λ s. bitXor (bitXor (f s) (g s)) (h s)) k
-    (linear-xor (λ s. bitXor (f s) (g s)) h (linear-xor f g p q) r) t
 
 linear-at-zero : (f : ℕ → ℕ) → Linear f → f 0 ≡ 0
 linear-at-zero f l = l .sum 0 0 ∙ xor-self (f 0)
@@ -128,9 +116,6 @@ by4 b = gmul 2 (gmul 2 b)
 
 abbrev by8 : ℕ → ℕ
 by8 b = gmul 2 (gmul 2 (gmul 2 b))
-
-linear-by : (k : ℕ) → Linear (gmul k)
-linear-by k = linear-gmul k (λ s. s) linear-self
 
 linear-8 : Linear by8
 linear-8 = linear-gmul 2 by4 (linear-gmul 2 (gmul 2) (linear-by 2))

@@ -1,7 +1,7 @@
 -- The S-box: its table, which one computed test holds against the rule of 5.1.1, and its inverse, which is its one place.
 --
 -- In order:
---   ginv-lt, gmul-ginv                  4.4: the inverse is one
+--   gmul-ginv                           4.4: the inverse is one
 --   sbox-table, getD-sbox-table         5.1.1: the table
 --   invSbox-table, sbox-lt, sbox-inj    the S-box on bytes
 --   invSbox-sbox, invSbox-unique, getD-invSbox-table, invSbox-lt, sbox-invSbox    5.3.2: its inverse
@@ -17,16 +17,6 @@ use borrow.Author.Tests.{eqb-true, eqb-false}
 use Rattle.words.proofs.Laws.Cases.{by-bool}
 use Rattle.words.proofs.Laws.Tests.{every-at, same-below}
 use Rattle.gf256.specs.Gf256.{xTimes, gmulBits, gmul, gmulSquares, ginv, bit, affineBit, fromBits, sbox, placeBelow, invSbox}
-use Rattle.gf256.proofs.Laws.Field.{gmul-lt}
-
-gmulSquares-lt : (n a : ℕ) → a < 256 → gmulSquares n a < 256
-unfolding gmulSquares
-gmulSquares-lt zero a h = omega arith
-gmulSquares-lt (suc n) a h = gmul-lt a (gmulSquares n (gmul a a)) h
-
-pub ginv-lt : (a : ℕ) → a < 256 → ginv a < 256
-unfolding ginv
-ginv-lt a h = gmulSquares-lt 7 (gmul a a) (gmul-lt a a h)
 
 -- 4.4: a byte but {00}, times its inverse, is {01}
 pub gmul-ginv : (a : ℕ) → 0 < a → a < 256 → gmul a (ginv a) ≡ 1

@@ -9,9 +9,13 @@ use Rattle.aes.proofs.block.load.Tie as tie
 
 returns : tie.Need-returns
 returns c =
-    let s = c .before .before .before .before .args .t1 in
-    columns-word s (search needs) (array-bytes 16 s _ (c .before .before .before .before .good .0)) (c .before .before .before .u32-of .result) (c .before .before .u32-of2 .result) (c .before .u32-of3 .result) (c .u32-of4 .result)
-    (c .before .before .before .u32-of .ensures) (c .before .before .u32-of2 .ensures) (c .before .u32-of3 .ensures) (c .u32-of4 .ensures)
+    let third = c .before in
+    let second = third .before in
+    let first = second .before in
+    let s = first .before .args .t1 in
+    columns-word s (search needs) (array-bytes 16 s _ (first .before .good .0))
+    (first .u32-of .result) (second .u32-of2 .result) (third .u32-of3 .result) (c .u32-of4 .result)
+    (first .u32-of .ensures) (second .u32-of2 .ensures) (third .u32-of3 .ensures) (c .u32-of4 .ensures)
     ∙ take-all 16 s (search needs)
 
 pub load-spec : {M : Type 1} → statement M

@@ -1,6 +1,5 @@
 -- `aes::block::xor` meets its contract. Assumes nothing.
 use Rattle.aes.proofs.Laws.Columns.{columns-xor}
-use borrow.Author.Needs.{needs}
 use Rattle.aes.proofs.block.xor.Statement.{statement}
 use Rattle.aes.proofs.block.xor.Tie as tie
 

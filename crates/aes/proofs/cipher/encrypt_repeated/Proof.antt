@@ -1,7 +1,6 @@
--- `aes::cipher::encrypt_repeated` meets its contract. Assumes nothing.
+-- `aes::cipher::encrypt_repeated` meets its contract. The invariant: i encryptions are done. Assumes nothing.
 use mathlib.Core.Path.{_≡_, refl, ap, _∙_}
 use Prim.Native.Nat.{ℕ, _-_, _≤_}
-use mathlib.Core.List.{List}
 use native.Mathlib.Omega.{arith}
 use denote.Ref.{now}
 use Rattle.fips197.specs.Fips197.{cipher}

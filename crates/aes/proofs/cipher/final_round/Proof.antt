@@ -11,13 +11,17 @@ use Rattle.aes.proofs.cipher.final_round.Tie as tie
 
 returns : tie.Need-returns
 unfolding finalRound
-returns c =
-    λ e. let a = c .before .before .before .before .before .args in
+returns c = λ e.
+    let fourth = c .before in
+    let third = fourth .before in
+    let second = third .before in
+    let first = second .before in
+    let a = first .before .args in
     c .add-round-key .ensures
     ∙ ap (λ (s : List ℕ). addRoundKey s (now (a .w)) 14)
-    (sub-is e (a .s .a) (a .s .b) (a .s .c) (a .s .d) (c .before .before .before .before .sub-column .result) (c .before .before .before .sub-column2 .result)
-    (c .before .before .sub-column3 .result) (c .before .sub-column4 .result)
-    (c .before .before .before .before .sub-column .ensures) (c .before .before .before .sub-column2 .ensures) (c .before .before .sub-column3 .ensures) (c .before .sub-column4 .ensures))
+    (sub-is e (a .s .a) (a .s .b) (a .s .c) (a .s .d)
+    (first .sub-column .result) (second .sub-column2 .result) (third .sub-column3 .result) (fourth .sub-column4 .result)
+    (first .sub-column .ensures) (second .sub-column2 .ensures) (third .sub-column3 .ensures) (fourth .sub-column4 .ensures))
 
 pub final-round-spec : {M : Type 1} → statement M
 final-round-spec =

@@ -6,11 +6,14 @@ use Rattle.aes.proofs.cipher.round.Statement.{statement}
 use Rattle.aes.proofs.cipher.round.Tie as tie
 
 returns : tie.Need-returns
-returns c =
-    λ e. let a = c .before .before .before .before .before .before .before .before .args in
-    round-is e (now (a .w)) (a .i) (a .s .a) (a .s .b) (a .s .c) (a .s .d) (c .before .before .before .column .result) (c .before .before .column2 .result)
-    (c .before .column3 .result) (c .column4 .result)
-    (c .before .before .before .column .ensures) (c .before .before .column2 .ensures) (c .before .column3 .ensures) (c .column4 .ensures)
+returns c = λ e.
+    let third = c .before in
+    let second = third .before in
+    let first = second .before in
+    let a = first .before .before .before .before .before .args in
+    round-is e (now (a .w)) (a .i) (a .s .a) (a .s .b) (a .s .c) (a .s .d)
+    (first .column .result) (second .column2 .result) (third .column3 .result) (c .column4 .result)
+    (first .column .ensures) (second .column2 .ensures) (third .column3 .ensures) (c .column4 .ensures)
 
 pub round-spec : {M : Type 1} → statement M
 round-spec =

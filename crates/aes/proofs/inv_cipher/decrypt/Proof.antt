@@ -1,10 +1,10 @@
--- `aes::inv_cipher::decrypt` meets its contract. Assumes nothing.
+-- `aes::inv_cipher::decrypt` meets its contract. The invariant: i rounds are left. Assumes nothing.
 use mathlib.Core.Path.{_≡_, refl, ap, _∙_}
 use mathlib.Core.List.{List}
 use Prim.Native.Nat.{ℕ, _-_, _≤_}
 use native.Mathlib.Omega.{arith}
 use denote.Ref.{now}
-use Rattle.fips197.specs.Fips197.{addRoundKey, eqInvRounds, eqInvFinalRound, eqInvCipher}
+use Rattle.fips197.specs.Fips197.{eqInvRounds, eqInvFinalRound, eqInvCipher}
 use Rattle.aes_tables.specs.Tables as tables
 use Rattle.aes.specs.Columns.{columns}
 use Rattle.aes.proofs.Laws.Rounds.{eqInvRounds-more}

@@ -11,13 +11,17 @@ use Rattle.aes.proofs.inv_cipher.inv_final_round.Tie as tie
 
 returns : tie.Need-returns
 unfolding eqInvFinalRound
-returns c =
-    λ e. let a = c .before .before .before .before .before .args in
+returns c = λ e.
+    let fourth = c .before in
+    let third = fourth .before in
+    let second = third .before in
+    let first = second .before in
+    let a = first .before .args in
     c .add-round-key .ensures
     ∙ ap (λ (s : List ℕ). addRoundKey s (now (a .v)) 0)
-    (invSub-is e (a .s .a) (a .s .b) (a .s .c) (a .s .d) (c .before .before .before .before .inv-sub-column .result) (c .before .before .before .inv-sub-column2 .result)
-    (c .before .before .inv-sub-column3 .result) (c .before .inv-sub-column4 .result)
-    (c .before .before .before .before .inv-sub-column .ensures) (c .before .before .before .inv-sub-column2 .ensures) (c .before .before .inv-sub-column3 .ensures) (c .before .inv-sub-column4 .ensures))
+    (invSub-is e (a .s .a) (a .s .b) (a .s .c) (a .s .d)
+    (first .inv-sub-column .result) (second .inv-sub-column2 .result) (third .inv-sub-column3 .result) (fourth .inv-sub-column4 .result)
+    (first .inv-sub-column .ensures) (second .inv-sub-column2 .ensures) (third .inv-sub-column3 .ensures) (fourth .inv-sub-column4 .ensures))
 
 pub inv-final-round-spec : {M : Type 1} → statement M
 inv-final-round-spec =

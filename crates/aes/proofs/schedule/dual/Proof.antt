@@ -1,8 +1,7 @@
--- `aes::schedule::dual` meets its contract. Assumes nothing.
+-- `aes::schedule::dual` meets its contract. The invariant: the first i words are there. Assumes nothing.
 use mathlib.Core.Path.{_≡_, refl}
 use Prim.Native.Nat.{ℕ, _-_, _<_, _≤_}
 use native.Mathlib.Omega.{arith}
-use denote.Ref.{now}
 use lib.ListN.{length, getD, take, length-set, length-replicate}
 use Rattle.fips197.specs.Fips197.{dualWord, dual}
 use Rattle.fips197.specs.Tabulate.{tabulate}

@@ -1,5 +1,6 @@
--- `aes::schedule::expand` meets its contract. Assumes nothing.
-use mathlib.Core.Path.{_≡_, ap, _∙_}
+-- `aes::schedule::expand` meets its contract. The invariant: the first i words are those of whatever key the first eight are of.
+-- Assumes nothing.
+use mathlib.Core.Path.{_≡_, ap}
 use mathlib.Core.List.{List}
 use Prim.Native.Nat.{ℕ, _-_, _<_, _≤_}
 use native.Mathlib.Omega.{arith}

@@ -5,8 +5,9 @@ use Rattle.aes.proofs.schedule.inv_mix_word.Statement.{statement}
 use Rattle.aes.proofs.schedule.inv_mix_word.Tie as tie
 
 returns : tie.Need-returns
-returns c =
-    λ e f. invMixWord-is f (c .before .before .args .w) (c .before .sub-word .result) (c .column .result) (c .before .sub-word .ensures e) (search needs) (c .column .ensures)
+returns c = λ e f.
+    let subbed = c .before .sub-word in
+    invMixWord-is f (c .before .before .args .w) (subbed .result) (c .column .result) (subbed .ensures e) (search needs) (c .column .ensures)
 
 pub inv-mix-word-spec : {M : Type 1} → statement M
 inv-mix-word-spec = tie.close (tie.spec (λ c κs. search needs) (λ c κs. search needs) returns)

@@ -1,12 +1,12 @@
--- `aes::schedule::key_words` meets its contract. Assumes nothing.
-use mathlib.Core.Path.{_≡_, refl, ap, _∙_, subst}
+-- `aes::schedule::key_words` meets its contract. The invariant: the first i words are there. Assumes nothing.
+use mathlib.Core.Path.{_≡_, refl, subst}
 use Prim.Native.Nat.{ℕ, _*_, _-_, _<_, _≤_}
 use native.Mathlib.Omega.{arith}
 use lib.ListN.{length, take, length-set, length-replicate}
 use Rattle.words.specs.Endian.{be}
 use Rattle.fips197.specs.Fips197.{expanded}
 use Rattle.fips197.specs.Tabulate.{tabulate}
-use Rattle.fips197.proofs.Laws.Tabulate.{tabulate-more, tabulate-all}
+use Rattle.fips197.proofs.Laws.Tabulate.{tabulate-more}
 use borrow.Author.Needs.{needs}
 use Rattle.aes.proofs.schedule.key_words.Statement.{statement}
 use Rattle.aes.proofs.schedule.key_words.Tie as tie
