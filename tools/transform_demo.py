@@ -4,7 +4,8 @@
 The rounds are done by the Python package cryptography, which is OpenSSL, and the hash by Python 3's hashlib, as in
 vectors_kdf.py.
 """
-from vectors_kdf import LIMIT, pattern, random, transformed
+from messages import pattern, random
+from vectors_kdf import LIMIT, transformed
 
 STEP = 40_000
 

@@ -7,6 +7,7 @@ schedule of FIPS 197, A.3, which the package does not show, is the published tex
 cuts and rows are those of crates/vectors_aes/src and crates/vectors/src, told anew here.
 """
 from cryptography.hazmat.primitives.ciphers import Cipher, algorithms, modes
+from messages import pattern, random
 
 # FIPS 197, C.3: key, plaintext, ciphertext.
 C_3 = (
@@ -40,20 +41,6 @@ F_2_5 = (
         "39f23369a9d9bacfa530e26304231461 b2eb05e2c39be9fcda6c19078c6a9d1b"
     ),
 )
-
-
-def pattern(n):
-    """The message by rule: byte i is (37 i + 11) mod 251."""
-    return bytes((37 * i + 11) % 251 for i in range(n))
-
-
-def random(x, n):
-    """The pseudo-random bytes by rule, and the generator's state behind them."""
-    out = []
-    for _ in range(n):
-        x = (1_664_525 * x + 1_013_904_223) % 2**32
-        out.append(x >> 24)
-    return x, bytes(out)
 
 
 def run(operation, text):

@@ -8,6 +8,7 @@ nonce where RFC 8439's counter of 32 bits begins again, so a message that runs o
 asked for in two.
 """
 from cryptography.hazmat.primitives.ciphers import Cipher, algorithms
+from messages import pattern
 
 END = 2**38  # 2^32 blocks of 64 bytes
 
@@ -121,11 +122,6 @@ EXAMPLES = {
 }
 
 POSITIONS = (1, 63, 64, 65, 16_383, 4_194_303, END - 100, 2**64 - 100)
-
-
-def pattern(n):
-    """The message by rule: byte i is (37 i + 11) mod 251."""
-    return bytes((37 * i + 11) % 251 for i in range(n))
 
 
 def within(key, nonce, at, text):

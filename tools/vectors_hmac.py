@@ -7,6 +7,8 @@ crates/vectors/src, told anew here.
 """
 import hmac
 
+from messages import pattern
+
 LIMIT = 8_388_608
 
 # RFC 4231, section 4: key, data, and HMAC-SHA-256 as published (case 5 is cut to 128 bits there).
@@ -28,11 +30,6 @@ CASES = [
         "9b09ffa71b942fcb27635fbcd5b0e944bfdc63644f0713938a7f51535c3a35e2",
     ),
 ]
-
-
-def pattern(n):
-    """The message by rule: byte i is (37 i + 11) mod 251."""
-    return bytes((37 * i + 11) % 251 for i in range(n))
 
 
 def tag(key, message):

@@ -13,25 +13,12 @@ import pathlib
 import sys
 
 from cryptography.hazmat.primitives.ciphers import Cipher, algorithms, modes
+from messages import pattern, random
 from vaults import text_field, vaults
 
 AES_KDF = bytes.fromhex("c9d9f39a628a4460bf740d08c18a4fea")
 LIMIT = 4_000_000
 TOO_MANY_ROUNDS, OUT_OF_SEQUENCE = 11, 19
-
-
-def pattern(n):
-    """The message by rule: byte i is (37 i + 11) mod 251."""
-    return bytes((37 * i + 11) % 251 for i in range(n))
-
-
-def random(x, n):
-    """The pseudo-random bytes by rule, and the generator's state behind them."""
-    out = []
-    for _ in range(n):
-        x = (1_664_525 * x + 1_013_904_223) % 2**32
-        out.append(x >> 24)
-    return x, bytes(out)
 
 
 def advanced(halves, seed, rounds):

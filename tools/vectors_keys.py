@@ -13,6 +13,7 @@ import hmac
 import pathlib
 import sys
 
+from messages import pattern
 from vaults import text_field, vaults
 
 LIMIT = 4_194_304
@@ -26,11 +27,6 @@ def sha256(*parts):
 
 def sha512(*parts):
     return hashlib.sha512(b"".join(parts)).digest()
-
-
-def pattern(n):
-    """The message by rule: byte i is (37 i + 11) mod 251."""
-    return bytes((37 * i + 11) % 251 for i in range(n))
 
 
 def composed(password, key_file, pre_hash):

@@ -6,13 +6,9 @@ independent implementation of RFC 5652, 6.3. That one has no slice with too litt
 answers. The payloads, pieces and rows are those of crates/vectors_pkcs7/src and crates/vectors/src, told anew here.
 """
 from cryptography.hazmat.primitives import padding
+from messages import pattern
 
 WRONG_PADDING = 16
-
-
-def pattern(n):
-    """The message by rule: byte i is (37 i + 11) mod 251."""
-    return bytes((37 * i + 11) % 251 for i in range(n))
 
 
 def padded(payload):

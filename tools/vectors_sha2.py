@@ -7,6 +7,8 @@ crates/vectors_sha2/src and crates/vectors/src, told anew here.
 """
 import hashlib
 
+from messages import pattern
+
 LIMIT = 8_388_608
 
 # NIST, "Examples with Intermediate Values" for SHA-256 and SHA-512, and "SHA-2 Additional": the digests as published.
@@ -59,11 +61,6 @@ BOTH = [
     ("zeros", 0, 1_000_000),
     ("a", ord("a"), 1_000_000),
 ]
-
-
-def pattern(n):
-    """The message by rule: byte i is (37 i + 11) mod 251."""
-    return bytes((37 * i + 11) % 251 for i in range(n))
 
 
 def row(name, form, length, number, message):
