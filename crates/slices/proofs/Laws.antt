@@ -8,4 +8,5 @@
 pub mod Parts
 pub mod Zeros
 pub mod Over
+pub mod Put
 pub mod Same

@@ -5,7 +5,7 @@
 ghost use mathlib.Core.Path.{_≡_};
 ghost use Prim.Native.Nat.{min};
 ghost use lib.ListN.{length, take, drop, replicate};
-ghost use Rattle.slices.specs.Over.{over};
+ghost use Rattle.slices.specs.Over.{over, putAt};
 ghost use Rattle.slices.specs.Same.{same as sameLists};
 
 // The lesser of two numbers.
@@ -27,6 +27,15 @@ pub fn copy(out: &mut [u8], s: &[u8])
     while i < n {
         out[i] = s[i];
         i += 1;
+    }
+}
+
+// Copies the bytes of `s` into `out` from a place on, as many as there is room for.
+pub fn put(out: &mut [u8], at: usize, s: &[u8])
+    ensures { λ _. ⌜ now (out .exit) ≡ putAt at (now (s .entry)) (now (out .entry)) ⌝ }
+{
+    if at < out.len() {
+        copy(&mut out[at..], s);
     }
 }
 

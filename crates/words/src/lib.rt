@@ -24,7 +24,7 @@ pub fn plus64(x: u64, y: u64) -> u64
 }
 
 // The byte at a place of a slice, zero behind its end.
-pub(crate) fn byte_at(s: &[u8], at: usize) -> u8
+pub fn byte_at(s: &[u8], at: usize) -> u8
     ensures { λ r. ⌜ r ≡ getD (now (s .entry)) at 0 ⌝ }
 {
     if at < s.len() {
