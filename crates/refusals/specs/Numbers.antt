@@ -5,6 +5,8 @@ use Rattle.refusals.specs.declared.Refusal.{Refusal}
 use Rattle.refusals.specs.declared.Refusal.the-variants.{TooLong, CutShort, WrongSignature, WrongVersion, WrongSize, Repeated, UnknownField, Absent, Unlisted, BrokenDictionary, TooManyRounds, HeaderHash, HeaderTag, BlockTag, TrailingBytes, WrongPadding, NoRoom, WrongCredential, OutOfSequence}
 use Rattle.refusals.specs.declared.Outcome.{Outcome}
 use Rattle.refusals.specs.declared.Outcome.the-variants.{Accepted, Refused}
+use Rattle.refusals.specs.declared.Written.{Written}
+use Rattle.refusals.specs.declared.Written.the-variants as written
 
 abbrev pub ofRefusal : Refusal → ℕ
 ofRefusal TooLong = 1
@@ -30,3 +32,12 @@ ofRefusal OutOfSequence = 19
 abbrev pub ofOutcome : Outcome → ℕ
 ofOutcome Accepted = 0
 ofOutcome (Refused r) = ofRefusal r
+
+-- "A refusal returns its number with zero in every other answer"
+abbrev pub ofWritten : Written → ℕ
+ofWritten (written.Wrote n) = 0
+ofWritten (written.Refused r) = ofRefusal r
+
+abbrev pub countOf : Written → ℕ
+countOf (written.Wrote n) = n
+countOf (written.Refused r) = 0

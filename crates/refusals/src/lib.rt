@@ -55,6 +55,12 @@ pub enum Outcome {
     Refused(Refusal),
 }
 
+// The answer of an operation that writes into a lent slice: how many bytes it wrote, or why it wrote none.
+pub enum Written {
+    Wrote(usize),
+    Refused(Refusal),
+}
+
 impl Refusal {
     // The refusal's number.
     pub fn number(self) -> u8
@@ -92,6 +98,28 @@ impl Outcome {
         match self {
             Outcome::Accepted => 0,
             Outcome::Refused(r) => r.number(),
+        }
+    }
+}
+
+impl Written {
+    // The answer's number: 0 is success.
+    pub fn number(self) -> u8
+        ensures { λ r. ⌜ r ≡ numbers.ofWritten self ⌝ }
+    {
+        match self {
+            Written::Wrote(_) => 0,
+            Written::Refused(r) => r.number(),
+        }
+    }
+
+    // How many bytes were written, 0 where it was refused.
+    pub fn count(self) -> usize
+        ensures { λ r. ⌜ r ≡ numbers.countOf self ⌝ }
+    {
+        match self {
+            Written::Wrote(n) => n,
+            Written::Refused(_) => 0,
         }
     }
 }
