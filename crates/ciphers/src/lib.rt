@@ -1,0 +1,55 @@
+// The ciphers of a payload (document 01, "Header"): which one an identifier names, and how long its nonce is.
+//
+// The contracts cite specs/Ciphers. The identifiers and nonce lengths are constants of each cipher's type.
+ghost use mathlib.Core.Path.{_≡_};
+ghost use Rattle.ciphers.specs.Ciphers as ciphers;
+use aes::Aes256;
+use chacha20::ChaCha20;
+
+pub enum Cipher {
+    Aes256,
+    ChaCha20,
+}
+
+// What an identifier names.
+pub enum Identified {
+    As(Cipher),
+    Unlisted,
+}
+
+// The cipher of an identifier.
+pub fn identify(id: &[u8]) -> Identified
+    ensures { λ r. ⌜ r ≡ ciphers.cipherOf (now (id .entry)) ⌝ }
+{
+    let aes = Aes256::ID;
+    if slices::same(id, &aes) {
+        return Identified::As(Cipher::Aes256);
+    }
+    let chacha = ChaCha20::ID;
+    if slices::same(id, &chacha) {
+        return Identified::As(Cipher::ChaCha20);
+    }
+    Identified::Unlisted
+}
+
+impl Cipher {
+    // The identifier of a cipher.
+    pub fn identifier(self) -> [u8; 16]
+        ensures { λ r. ⌜ r ≡ ciphers.identifier self ⌝ }
+    {
+        match self {
+            Cipher::Aes256 => Aes256::ID,
+            Cipher::ChaCha20 => ChaCha20::ID,
+        }
+    }
+
+    // How many bytes a cipher's nonce has.
+    pub fn nonce_len(self) -> usize
+        ensures { λ r. ⌜ r ≡ ciphers.nonceLength self ⌝ }
+    {
+        match self {
+            Cipher::Aes256 => Aes256::NONCE_LEN,
+            Cipher::ChaCha20 => ChaCha20::NONCE_LEN,
+        }
+    }
+}
