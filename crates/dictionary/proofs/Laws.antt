@@ -5,9 +5,21 @@
 --   Walk     one turn of each walk
 --   Enough   the count of items never ends a walk
 --   Find     what is found is an item of the name, and where a name is absent none has it
+--   Key      names as numbers
+--   Rising   a rising list of numbers
+--   Insert   a place put into a table
+--   Table    the numbers of a table's places
+--   Judge    the verdict, when some names are known
+--   Verdict  the verdict is the judgement that knows no name
 --   Kdf      the KDF dictionary that is written is sound, and what is found in it
 pub mod Entry
 pub mod Walk
 pub mod Enough
 pub mod Find
+pub mod Key
+pub mod Rising
+pub mod Insert
+pub mod Table
+pub mod Judge
+pub mod Verdict
 pub mod Kdf

@@ -1,2 +1,4 @@
 pub mod Dictionary
 pub mod Kdf
+pub mod Order
+pub mod Repeats

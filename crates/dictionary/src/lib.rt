@@ -4,8 +4,8 @@
 //
 // The contracts cite specs/Dictionary. An item is told by its places in the dictionary, and nothing is copied.
 // Refusals: 10 for any fault of the form, 6 for a sound item whose name an earlier item has; the first met from the
-// front is given. A name is compared with those of all items before it, so the time of a check grows with the square of
-// their number.
+// front is given. Repeated names are searched for in batches (repeats): with a table of 64 places on the stack, and where
+// there are more items with one of 4,096 (16 KiB).
 ghost use mathlib.Core.Path.{_≡_};
 ghost use Prim.Native.Nat.{_+_, _≤_};
 ghost use lib.ListN.{length, take, drop};
@@ -14,9 +14,12 @@ ghost use Rattle.words.specs.Size.{int32};
 ghost use Rattle.dictionary.specs.Dictionary as dictionary;
 use refusals::Outcome;
 use refusals::Refusal;
+use repeats::Batch;
 use words::le::Size;
 
 pub mod kdf;
+mod repeats;
+mod table;
 
 // An item: its type, and the places of its name and value.
 pub struct Item {
@@ -126,32 +129,7 @@ pub fn entry_at(s: &[u8], at: usize) -> Entry
     }
 }
 
-// Whether an item before the place `stop` has the name.
-fn named(s: &[u8], stop: usize, name: &[u8]) -> bool
-    ensures { λ r. ⌜ r ≡ dictionary.named (length (now (s .entry))) (now (s .entry)) 2 stop (now (name .entry)) ⌝ }
-{
-    let mut at: usize = 2;
-    let mut left = s.len();
-    while 0 < left {
-        if stop <= at {
-            return false;
-        }
-        match entry_at(s, at) {
-            Entry::End => return false,
-            Entry::Broken => return false,
-            Entry::Item(i) => {
-                if slices::same(slices::part(s, i.name, i.name_len), name) {
-                    return true;
-                }
-                at = i.value + i.value_len;
-            }
-        }
-        left -= 1;
-    }
-    false
-}
-
-// Whether a dictionary is sound, or its first fault.
+// Whether a dictionary is sound, or its first fault. Few items fit a small table; many are judged in batches.
 pub fn check(s: &[u8]) -> Outcome
     ensures { λ r. ⌜ r ≡ dictionary.verdict (now (s .entry)) ⌝ }
 {
@@ -161,26 +139,15 @@ pub fn check(s: &[u8]) -> Outcome
     if s[1] != 1 {
         return Outcome::Refused(Refusal::BrokenDictionary);
     }
-    let mut at: usize = 2;
-    let mut left = s.len();
-    while 0 < left {
-        match entry_at(s, at) {
-            Entry::End => return Outcome::Accepted,
-            Entry::Broken => return Outcome::Refused(Refusal::BrokenDictionary),
-            Entry::Item(i) => {
-                if named(s, at, slices::part(s, i.name, i.name_len)) {
-                    return Outcome::Refused(Refusal::Repeated);
-                }
-                at = i.value + i.value_len;
-            }
-        }
-        left -= 1;
+    let mut t = [0u32; 64];
+    match repeats::fill(s, 2, &mut t) {
+        Batch::Done(o) => return o,
+        Batch::Full { held: _, next: _ } => return repeats::judge(s),
     }
-    Outcome::Refused(Refusal::BrokenDictionary)
 }
 
-// The item of a name in a sound dictionary.
-fn search(s: &[u8], name: &[u8]) -> Found
+// The item of a name in a dictionary that `check` accepts.
+pub fn search(s: &[u8], name: &[u8]) -> Found
     ensures { λ r. ⌜ r ≡ dictionary.searchFrom (length (now (s .entry))) (now (s .entry)) 2 (now (name .entry)) ⌝ }
 {
     let mut at: usize = 2;

@@ -1,15 +1,15 @@
 -- Where the parts of an item lie.
 --
 -- In order: entryAt-past (no entry behind the end), IsWithin, entryAt-within (an item's parts lie one after the other,
--- within the dictionary, and its value's size fits its type).
+-- within the dictionary, and its value's size fits its type), name-from (its name is the one behind its name size).
 -- Assumes nothing.
-use mathlib.Core.Path.{_≡_, refl}
+use mathlib.Core.Path.{_≡_, refl, ap₂}
 use mathlib.Core.Bool.{true}
 use mathlib.Core.List.{List}
-use Prim.Native.Nat.{ℕ, _+_, _-_, _≤_}
+use Prim.Native.Nat.{ℕ, _+_, _-_, _≤_, _^_}
 use native.Mathlib.Omega.{arith}
 use lib.Dec.{eqb, leb, ltb}
-use lib.ListN.{length, getD}
+use lib.ListN.{length, getD, take, drop}
 use borrow.Author.Tests.{le-leb, leb-false, ltb-false}
 use Rattle.words.specs.Endian.{le}
 use Rattle.words.specs.Size.{int32}
@@ -19,7 +19,8 @@ use Rattle.words.proofs.Laws.Cases.{by-bool}
 use Rattle.dictionary.specs.declared.Item.{Item}
 use Rattle.dictionary.specs.declared.Entry.{Entry}
 use Rattle.dictionary.specs.declared.Entry.the-variants as entry
-use Rattle.dictionary.specs.Dictionary.{sizeFits, itemAt, valueAt, nameAt, entryAt, next}
+use Rattle.dictionary.specs.Dictionary.{sizeFits, itemAt, valueAt, nameAt, entryAt, nameOf, next}
+use Rattle.dictionary.specs.Order.{nameFrom}
 
 pub entryAt-past : (s : List ℕ) (at : ℕ) → length s ≤ at → entryAt s at ≡ entry.Broken
 unfolding entryAt
@@ -75,3 +76,41 @@ entryAt-within s at i =
     (λ v. rw (t, u, v) (λ p. absurd (broken-never i p)))
     (λ v. rw (t, u, v) (nameAt-within s at (int32 (le 4 s (at + 1))) i
     (omega (arith, leb-false (length s) at t, ltb-false (length s - at) 5 v))))))
+
+valueAt-len : (s : List ℕ) (at n : ℕ) (v : Size) (i : Item) → valueAt s at n v ≡ entry.Item i → i .«name_len» ≡ n
+unfolding valueAt
+valueAt-len s at n Negative i = λ p. absurd (broken-never i p)
+valueAt-len s at n (Of v) i =
+    by-bool (ltb (length s - (at + 5 + n + 4)) v)
+    (λ t. rw t (λ p. absurd (broken-never i p)))
+    (λ t. by-bool (sizeFits (getD s at 0) v)
+    (λ u. rw (t, u) (λ p.
+    let e : itemAt s at n v ≡ i = cc in
+    rw (← e)))
+    (λ u. rw (t, u) (λ p. absurd (broken-never i p))))
+
+nameAt-len : (s : List ℕ) (at n : ℕ) (i : Item) → nameAt s at (int32 n) ≡ entry.Item i → i .«name_len» ≡ n
+unfolding nameAt int32
+nameAt-len s at n i =
+    by-bool (ltb n (2 ^ 31))
+    (λ l. by-bool (ltb (length s - (at + 5)) (n + 4))
+    (λ t. rw (l, t) (λ p. absurd (broken-never i p)))
+    (λ t. rw (l, t) (valueAt-len s at n (int32 (le 4 s (at + 5 + n))) i)))
+    (λ l. rw l (λ p. absurd (broken-never i p)))
+
+entryAt-len : (s : List ℕ) (at : ℕ) (i : Item) → entryAt s at ≡ entry.Item i → i .«name_len» ≡ le 4 s (at + 1)
+unfolding entryAt
+entryAt-len s at i =
+    by-bool (leb (length s) at)
+    (λ t. rw t (λ p. absurd (broken-never i p)))
+    (λ t. by-bool (eqb (getD s at 0) 0)
+    (λ u. by-bool (eqb (length s - at) 1)
+    (λ v. rw (t, u, v) (λ p. absurd (end-never i p)))
+    (λ v. rw (t, u, v) (λ p. absurd (broken-never i p))))
+    (λ u. by-bool (ltb (length s - at) 5)
+    (λ v. rw (t, u, v) (λ p. absurd (broken-never i p)))
+    (λ v. rw (t, u, v) (nameAt-len s at (le 4 s (at + 1)) i))))
+
+pub name-from : (s : List ℕ) (at : ℕ) (i : Item) → entryAt s at ≡ entry.Item i → nameOf s i ≡ nameFrom s at
+name-from s at i p =
+    ap₂ (λ (n m : ℕ). take n (drop m s)) (entryAt-len s at i p) (entryAt-within s at i p .name-at)

@@ -6,6 +6,7 @@
 --   find-found       what is found is such an item
 --   find-absent      where a name is absent no item has it
 --   find-within      a value that is found lies within the dictionary, and its size fits its type
+--   searchFrom-within    the same, of a search from any place on
 --   lookup-found     what is shown is the value of that item
 -- Assumes nothing.
 use mathlib.Core.Path.{_≡_, refl, sym, ap₂}
@@ -133,6 +134,13 @@ module _ (s name : List ℕ) where
       → (start + n ≤ length s) × (sizeFits kind n ≡ true)
   find-within kind start n p =
       let f = find-found kind start n p in
+      let w = entryAt-within s (f .place) (f .item) (f .stands) in
+      (omega arith, cc)
+
+  pub searchFrom-within : (k at kind start n : ℕ) → searchFrom k s at name ≡ At kind start n
+      → (start + n ≤ length s) × (sizeFits kind n ≡ true)
+  searchFrom-within k at kind start n p =
+      let f = searchFrom-found k at kind start n p in
       let w = entryAt-within s (f .place) (f .item) (f .stands) in
       (omega arith, cc)
 
