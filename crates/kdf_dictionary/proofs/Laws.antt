@@ -1,0 +1,4 @@
+-- Laws of KDF dictionaries.
+--
+-- In order: Asks (what an accepted dictionary keeps to).
+pub mod Asks
