@@ -1,0 +1,108 @@
+-- Worked numbers of document 01, "Numbers to meet", and its header of the listing program, as theorems.
+--
+-- In order:
+--   header-short       "Eleven bytes of anything: 2"
+--   custom-negative    "Custom dictionary field of size FFFFFFFF: 5"
+--   custom-long        "Of 7FFFFFFF in a short file: 2"
+--   rounds-most, rounds-more    "Rounds 4,000,000 pass, 4,000,001 give 11"
+--   header-listed      the 4.1 ChaCha20 header with R = 1, seeds of bytes 11 and 33, nonce of bytes 22
+-- Assumes nothing.
+use mathlib.Core.Path.{_≡_, refl}
+use mathlib.Core.Bool.{false}
+use mathlib.Core.List.{List, [], _∷_, _++_}
+use Prim.Native.Nat.{ℕ, _+_, _-_, _≤_, _<_}
+use native.Mathlib.Omega.{arith}
+use lib.ListN.{length, getD, replicate}
+use borrow.Author.Tests.{le-leb, lt-leb, lt-ltb}
+use Rattle.words.specs.Endian.{le, leBytes}
+use Rattle.words.specs.Size.{int32}
+use Rattle.slices.specs.Same.{same}
+use Rattle.refusals.specs.declared.Refusal.the-variants.{CutShort, WrongSize, TooManyRounds}
+use Rattle.refusals.specs.Limits.{fileLimit, roundsLimit}
+use Rattle.fields.specs.Fields.{fits, valueAt, fieldAt, fieldBytes}
+use Rattle.fields.specs.declared.Place.{Place}
+use Rattle.fields.specs.declared.Field.the-variants as field
+use Rattle.ciphers.specs.Ciphers.{identifier, cipherOf, nonceLength}
+use Rattle.ciphers.specs.declared.Cipher.the-variants.{ChaCha20}
+use Rattle.dictionary.specs.Dictionary as dictionary
+use Rattle.dictionary.specs.Kdf.{itemBytes, kdfBytes}
+use Rattle.dictionary.specs.declared.Found.the-variants as found
+use Rattle.kdf_dictionary.specs.KdfDictionary.{roundsIn, seedIn, uuidIn, kdfIn, kdfOf}
+use Rattle.kdf_dictionary.specs.declared.Reading.the-variants as kdf
+use Rattle.outer_header.specs.declared.walk.Fields.{Fields}
+use Rattle.outer_header.specs.declared.Reading.the-variants as read
+use Rattle.outer_header.specs.Kdbx4Header.{
+  listed,
+  sizeRule,
+  seen,
+  put,
+  noFields,
+  fieldHere,
+  endsRight,
+  walkIn,
+  walk,
+  complete,
+  customOf,
+  figuresIn,
+  figures,
+  identified,
+  judged,
+  judgedIn,
+  body,
+  header,
+}
+
+-- fewer than twelve bytes of anything
+header-short : (s : List ℕ) → length s < 12 → header s ≡ read.Refused CutShort
+unfolding header fileLimit
+header-short s h =
+    let l : length s ≤ fileLimit = omega arith in
+    rw (le-leb _ _ l, lt-ltb _ 12 h)
+
+module _ (f : Fields) (s : List ℕ) (at : ℕ) (fresh : seen f 12 ≡ false) (here : at + 5 ≤ length s)
+    (custom : getD s at 0 ≡ 12) where
+  custom-negative : le 4 s (at + 1) ≡ 0xFFFFFFFF → fieldHere f s at ≡ field.Refused WrongSize
+  unfolding fieldHere fieldAt valueAt int32 listed
+  custom-negative e = rw (custom, fresh, le-leb _ _ here, e)
+
+  -- no file within the limit has a value so long
+  custom-long : le 4 s (at + 1) ≡ 0x7FFFFFFF → length s ≤ fileLimit → fieldHere f s at ≡ field.Refused CutShort
+  unfolding fieldHere fieldAt valueAt int32 listed sizeRule fits fileLimit
+  custom-long e h =
+      let l : length s - (at + 5) < 0x7FFFFFFF = omega arith in
+      rw (custom, fresh, le-leb _ _ here, e, lt-leb _ _ l)
+
+module _ (d : List ℕ) (seed : Place) (start : ℕ) where
+  rounds-most : le 8 d start ≡ 4_000_000
+      → roundsIn d seed (found.At 0x05 start 8) ≡ kdf.Asks (record { seed = seed; rounds = 4_000_000 })
+  unfolding roundsIn roundsLimit
+  rounds-most e = rw e
+
+  rounds-more : le 8 d start ≡ 4_000_001 → roundsIn d seed (found.At 0x05 start 8) ≡ kdf.Refused TooManyRounds
+  unfolding roundsIn roundsLimit
+  rounds-more e = rw e
+
+abbrev chaChaHeader : List ℕ
+chaChaHeader =
+    leBytes 4 0x9AA2D903 ++ leBytes 4 0xB54BFB67 ++ leBytes 4 0x40001
+    ++ fieldBytes 2 (identifier ChaCha20)
+    ++ fieldBytes 3 (0 ∷ 0 ∷ 0 ∷ 0 ∷ [])
+    ++ fieldBytes 4 (replicate 32 0x11)
+    ++ fieldBytes 7 (replicate 12 0x22)
+    ++ fieldBytes 11 (kdfBytes (replicate 32 0x33) 1)
+    ++ fieldBytes 0 (0x0D ∷ 0x0A ∷ 0x0D ∷ 0x0A ∷ [])
+
+header-listed : header chaChaHeader
+    ≡ read.Header
+    (record {
+      minor = 1;
+      cipher = ChaCha20;
+      seed = record { start = 47; length = 32 };
+      nonce = record { start = 84; length = 12 };
+      kdf = record { seed = record { start = 161; length = 32 }; rounds = 1 };
+      «kdf_dictionary» = record { start = 101; length = 93 };
+      custom = record { start = 0; length = 0 };
+      length = 203;
+    })
+unfolding header body judgedIn judged identified figures figuresIn customOf complete walk walkIn endsRight fieldHere noFields put seen sizeRule listed fieldAt valueAt fits int32 le leBytes same fieldBytes kdfBytes itemBytes identifier cipherOf nonceLength kdfOf kdfIn uuidIn seedIn roundsIn roundsLimit fileLimit dictionary.verdict dictionary.walk dictionary.walkIn dictionary.named dictionary.namedIn dictionary.entryAt dictionary.nameAt dictionary.valueAt dictionary.sizeFits dictionary.searchFrom dictionary.searchIn
+header-listed = refl

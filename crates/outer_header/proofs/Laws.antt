@@ -1,0 +1,9 @@
+-- Laws of the outer header.
+--
+-- In order:
+--   Walk        the walk over the fields
+--   Accepted    what an accepted header keeps to
+--   Behind      the bytes behind a header do not count
+pub mod Walk
+pub mod Accepted
+pub mod Behind

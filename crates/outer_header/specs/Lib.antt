@@ -1,0 +1,2 @@
+pub mod Kdbx4Header
+pub mod Frames

@@ -1,0 +1,163 @@
+// The outer header of a KDBX 4 file (document 01, "Header"): reading.
+//
+//   signatures, version | ID, size, value | ID, size, value | … | 00, 4, 0D 0A 0D 0A
+//
+// The contracts cite specs/Kdbx4Header. Values are told by their places in the file, and nothing is copied.
+// Refusals: 1 to 11, in document 01's order; fields may come in any order.
+ghost use mathlib.Core.Path.{_≡_};
+ghost use Rattle.outer_header.specs.Kdbx4Header as kdbx4;
+use ciphers::Cipher;
+use ciphers::Identified;
+use fields::Place;
+use kdf_dictionary::AesKdf;
+use refusals::Outcome;
+use refusals::Refusal;
+use walk::Fields;
+use walk::Walked;
+
+pub mod walk;
+
+// What an accepted header says. A custom dictionary that is absent has the start 0.
+pub struct Header {
+    pub minor: u8,
+    pub cipher: Cipher,
+    pub seed: Place,
+    pub nonce: Place,
+    pub kdf: AesKdf,
+    pub kdf_dictionary: Place,
+    pub custom: Place,
+    pub length: usize,
+}
+
+// The header of a file, or why it is refused.
+pub enum Reading {
+    Header(Header),
+    Refused(Refusal),
+}
+
+// Whether every required field is there.
+fn is_complete(f: Fields) -> bool
+    ensures { λ r. ⌜ r ≡ kdbx4.complete f ⌝ }
+{
+    if f.cipher.start == 0 {
+        return false;
+    }
+    if f.compression.start == 0 {
+        return false;
+    }
+    if f.seed.start == 0 {
+        return false;
+    }
+    if f.nonce.start == 0 {
+        return false;
+    }
+    f.kdf.start != 0
+}
+
+// Whether a custom dictionary, where it is given, is sound.
+fn custom_of(s: &[u8], p: Place) -> Outcome
+    ensures { λ r. ⌜ r ≡ kdbx4.customOf (now (s .entry)) p ⌝ }
+{
+    if p.start != 0 {
+        return dictionary::check(slices::part(s, p.start, p.length));
+    }
+    Outcome::Accepted
+}
+
+// The header's figures, where both dictionaries are right.
+fn figures(s: &[u8], f: Fields, minor: u8, end: usize, c: Cipher) -> Reading
+    ensures { λ r. ⌜ r ≡ kdbx4.figures (now (s .entry)) f minor end c ⌝ }
+{
+    let dictionary = f.kdf;
+    let custom = f.custom;
+    match kdf_dictionary::read(s, dictionary) {
+        kdf_dictionary::Reading::Refused(r) => return Reading::Refused(r),
+        kdf_dictionary::Reading::Asks(kdf) => {
+            match custom_of(s, custom) {
+                Outcome::Refused(x) => return Reading::Refused(x),
+                Outcome::Accepted => {
+                    let seed = f.seed;
+                    let nonce = f.nonce;
+                    return Reading::Header(Header {
+                        minor,
+                        cipher: c,
+                        seed,
+                        nonce,
+                        kdf,
+                        kdf_dictionary: dictionary,
+                        custom,
+                        length: end,
+                    });
+                }
+            }
+        }
+    }
+}
+
+// A header whose cipher is looked up: the cipher, then the compression, then the nonce's size.
+fn identified(s: &[u8], f: Fields, minor: u8, end: usize, id: Identified) -> Reading
+    ensures { λ r. ⌜ r ≡ kdbx4.identified (now (s .entry)) f minor end id ⌝ }
+{
+    match id {
+        Identified::Unlisted => return Reading::Refused(Refusal::Unlisted),
+        Identified::As(c) => {
+            let plain = words::le::u32_at(s, f.compression.start) == 0;
+            let sized = f.nonce.length == c.nonce_len();
+            if plain {
+                if sized {
+                    return figures(s, f, minor, end, c);
+                }
+                return Reading::Refused(Refusal::WrongSize);
+            }
+            return Reading::Refused(Refusal::Unlisted);
+        }
+    }
+}
+
+// A header whose end field is reached.
+fn judge(s: &[u8], f: Fields, minor: u8, end: usize) -> Reading
+    ensures { λ r. ⌜ r ≡ kdbx4.judged (now (s .entry)) f minor end ⌝ }
+{
+    if is_complete(f) {
+        let p = f.cipher;
+        let id = ciphers::identify(slices::part(s, p.start, p.length));
+        return identified(s, f, minor, end, id);
+    }
+    Reading::Refused(Refusal::Absent)
+}
+
+// The fields of a file of a known version.
+fn body(s: &[u8], minor: u8) -> Reading
+    ensures { λ r. ⌜ r ≡ kdbx4.body (now (s .entry)) minor ⌝ }
+{
+    match walk::walk(s) {
+        Walked::Refused(r) => return Reading::Refused(r),
+        Walked::Ended(f, end) => return judge(s, f, minor, end),
+    }
+}
+
+// The header of a file, or why it is refused.
+pub fn read(s: &[u8]) -> Reading
+    ensures { λ r. ⌜ r ≡ kdbx4.header (now (s .entry)) ⌝ }
+{
+    if refusals::limits::file_fits(s.len()) {
+        if s.len() < 12 {
+            return Reading::Refused(Refusal::CutShort);
+        }
+        if words::le::u32_at(s, 0) == 0x9AA2_D903 {
+            if words::le::u32_at(s, 4) == 0xB54B_FB67 {
+                let version = words::le::u32_at(s, 8);
+                if version == 0x4_0000 {
+                    return body(s, 0);
+                }
+                if version == 0x4_0001 {
+                    return body(s, 1);
+                }
+                return Reading::Refused(Refusal::WrongVersion);
+            }
+            return Reading::Refused(Refusal::WrongSignature);
+        }
+        return Reading::Refused(Refusal::WrongSignature);
+    }
+    Reading::Refused(Refusal::TooLong)
+}
