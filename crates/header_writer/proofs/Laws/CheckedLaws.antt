@@ -1,0 +1,81 @@
+-- What figures that may be written keep to.
+--
+-- In order: IsChecked, checked-as.
+-- Assumes nothing.
+use mathlib.Core.Path.{_≡_, refl, ap, _∙_}
+use mathlib.Core.Bool.{Bool, true, false, cond}
+use mathlib.Core.List.{List}
+use Prim.Native.Nat.{ℕ, _≤_}
+use native.Mathlib.Omega.{arith}
+use lib.ListN.{length}
+use borrow.Author.Tests.{leb-true, eqb-true}
+use Rattle.refusals.specs.declared.Refusal.{Refusal}
+use Rattle.refusals.specs.declared.Outcome.{Outcome}
+use Rattle.refusals.specs.declared.Outcome.the-variants as outcome
+use Rattle.refusals.specs.Limits.{roundsLimit}
+use Rattle.ciphers.specs.Ciphers.{cipherOf, nonceLength}
+use Rattle.ciphers.specs.declared.Cipher.{Cipher}
+use Rattle.ciphers.specs.declared.Identified.{Identified}
+use Rattle.ciphers.specs.declared.Identified.the-variants as identified
+use Rattle.header_writer.specs.Written.{customVerdict, checkedCustom, checkedSizes, checkedCipher, checked}
+use Rattle.header_writer.specs.declared.Checked.{Checked}
+use Rattle.header_writer.specs.declared.Checked.the-variants.{As, Refused}
+
+refused-never : (r : Refusal) (c : Cipher) → Refused r ≡ As c → ⊥
+refused-never r c e = let z : _≡_ {A = ℕ} 0 1 = cc in omega arith
+
+-- the checks, passed
+pub record IsChecked (minor : ℕ) (id seed nonce kdfSeed : List ℕ) (rounds : ℕ) (custom : List ℕ) (c : Cipher)
+    : Type 0 where
+  pub minor-le : minor ≤ 1
+  pub cipher-is : cipherOf id ≡ identified.As c
+  pub seed-long : length seed ≡ 32
+  pub nonce-long : length nonce ≡ nonceLength c
+  pub kdf-seed-long : length kdfSeed ≡ 32
+  pub rounds-le : rounds ≤ roundsLimit
+  pub custom-sound : customVerdict custom ≡ outcome.Accepted
+
+-- a test before a check
+cond-as : (b : Bool) (x : Checked) (r : Refusal) (c : Cipher) → cond b x (Refused r) ≡ As c → (b ≡ true) × (x ≡ As c)
+cond-as true x r c e = (refl, e)
+cond-as false x r c e = absurd (refused-never r c e)
+
+checkedCustom-as : (c d : Cipher) (o : Outcome) → checkedCustom d o ≡ As c → (d ≡ c) × (o ≡ outcome.Accepted)
+unfolding checkedCustom
+checkedCustom-as c d outcome.Accepted e = (cc, refl)
+checkedCustom-as c d (outcome.Refused r) e = absurd (refused-never r c e)
+
+module _ (minor : ℕ) (id seed nonce kdfSeed : List ℕ) (rounds : ℕ) (custom : List ℕ) (c : Cipher) where
+  checkedSizes-as : (d : Cipher) → minor ≤ 1 → cipherOf id ≡ identified.As d
+      → checkedSizes d seed nonce kdfSeed rounds custom ≡ As c
+      → IsChecked minor id seed nonce kdfSeed rounds custom c
+  unfolding checkedSizes
+  checkedSizes-as d m i e =
+      let t = cond-as _ _ _ c e in
+      let u = cond-as _ _ _ c (t .1) in
+      let v = cond-as _ _ _ c (u .1) in
+      let w = cond-as _ _ _ c (v .1) in
+      let x = checkedCustom-as c d (customVerdict custom) (w .1) in
+      record {
+        minor-le = m;
+        cipher-is = i ∙ ap (λ (y : Cipher). identified.As y) (x .0);
+        seed-long = eqb-true (length seed) 32 (t .0);
+        nonce-long = eqb-true (length nonce) (nonceLength d) (u .0) ∙ ap nonceLength (x .0);
+        kdf-seed-long = eqb-true (length kdfSeed) 32 (v .0);
+        rounds-le = leb-true rounds roundsLimit (w .0);
+        custom-sound = x .1;
+      }
+
+  checkedCipher-as : (d : Identified) → minor ≤ 1 → cipherOf id ≡ d
+      → checkedCipher d seed nonce kdfSeed rounds custom ≡ As c
+      → IsChecked minor id seed nonce kdfSeed rounds custom c
+  unfolding checkedCipher
+  checkedCipher-as identified.Unlisted m i e = absurd (refused-never _ c e)
+  checkedCipher-as (identified.As d) m i e = checkedSizes-as d m i e
+
+  pub checked-as : checked minor id seed nonce kdfSeed rounds custom ≡ As c
+      → IsChecked minor id seed nonce kdfSeed rounds custom c
+  unfolding checked
+  checked-as e =
+      let t = cond-as _ _ _ c e in
+      checkedCipher-as (cipherOf id) (leb-true minor 1 (t .0)) refl (t .1)

@@ -1,0 +1,48 @@
+-- `header_writer::header_len` meets its contract. Assumes nothing.
+use mathlib.Core.Path.{_≡_}
+use Prim.Native.Nat.{_≤_}
+use native.Mathlib.Omega.{arith}
+use borrow.Author.Tests.{eq-eqb, ne-eqb}
+use Rattle.ciphers.specs.Ciphers.{nonceLength}
+use Rattle.header_writer.specs.Written.{headerLength}
+use Rattle.header_writer.proofs.Laws.Layout.{nonceLength-le}
+use borrow.Author.Needs.{needs}
+use Rattle.header_writer.proofs.header_len.Statement.{statement}
+use Rattle.header_writer.proofs.header_len.Tie as tie
+
+add-n : tie.Need-add-n
+add-n c =
+    let h = nonceLength-le (c .before .before .args .c) in
+    let e = c .nonce-len .ensures in
+    search needs
+
+returns : tie.Need-returns
+unfolding headerLength
+returns c = rw (eq-eqb _ 0 (c .if1 .taken), c .before .nonce-len .ensures) (omega arith)
+
+add-result : tie.Need-add-result
+add-result c =
+    let h = nonceLength-le (c .before .before .before .args .c) in
+    let e = c .before .nonce-len .ensures in
+    search needs
+
+add-result-2 : tie.Need-add-result-2
+add-result-2 c =
+    let h = nonceLength-le (c .before .before .before .args .c) in
+    let e = c .before .nonce-len .ensures in
+    search needs
+
+returns-2 : tie.Need-returns-2
+unfolding headerLength
+returns-2 c = rw (ne-eqb _ 0 (c .if1 .left), c .before .nonce-len .ensures) (omega arith)
+
+pub header-len-spec : {M : Type 1} → statement M
+header-len-spec =
+    tie.close
+    (tie.spec
+    (λ c κs. search needs)
+    add-n
+    returns
+    add-result
+    add-result-2
+    returns-2)

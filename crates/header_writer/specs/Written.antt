@@ -1,0 +1,90 @@
+-- The outer header that is written: document 01, "Header" and "File after the header".
+--
+--   "Order: 4, 9, 5 (seeds, nonce), 11, 10 or 6, .."            checked, checkedSizes, checkedCustom
+--   "Signatures 0x9AA2D903 and 0xB54BFB67, then the version,
+--    major in the high word"                                    versionBytes
+--   "custom dictionary (zero length: field absent)"             customField
+--   "Fields are 2, 3, 4, 7, 11, 12, 0"                          headerBytes
+-- Not here: fields (crate fields), the KDF dictionary (crate dictionary, Kdf), reading (crate outer_header).
+-- Assumes nothing.
+use mathlib.Core.Bool.{Bool, cond, _&&_}
+use mathlib.Core.List.{List, [], _∷_, _++_}
+use Prim.Native.Nat.{ℕ, _+_}
+use lib.Dec.{eqb, leb}
+use lib.ListN.{length}
+use Rattle.words.specs.Endian.{leBytes}
+use Rattle.refusals.specs.declared.Refusal.{Refusal}
+use Rattle.refusals.specs.declared.Refusal.the-variants.{WrongVersion, WrongSize, Unlisted, TooManyRounds}
+use Rattle.refusals.specs.declared.Outcome.{Outcome}
+use Rattle.refusals.specs.declared.Outcome.the-variants as outcome
+use Rattle.refusals.specs.Limits.{roundsLimit}
+use Rattle.fields.specs.Fields.{fieldBytes}
+use Rattle.ciphers.specs.Ciphers.{identifier, cipherOf, nonceLength}
+use Rattle.ciphers.specs.declared.Cipher.{Cipher}
+use Rattle.ciphers.specs.declared.Identified.{Identified}
+use Rattle.ciphers.specs.declared.Identified.the-variants as identified
+use Rattle.dictionary.specs.Dictionary.{verdict}
+use Rattle.dictionary.specs.Kdf.{kdfBytes}
+use Rattle.header_writer.specs.declared.Checked.{Checked}
+use Rattle.header_writer.specs.declared.Checked.the-variants.{As, Refused}
+
+-- signatures, and version 4.minor
+unfoldable pub versionBytes : ℕ → List ℕ
+versionBytes minor = leBytes 4 0x9AA2D903 ++ (leBytes 4 0xB54BFB67 ++ leBytes 4 (0x40000 + minor))
+
+-- the end field's value
+abbrev pub endBytes : List ℕ
+endBytes = 0x0D ∷ 0x0A ∷ 0x0D ∷ 0x0A ∷ []
+
+-- compression: none
+abbrev pub noCompression : List ℕ
+noCompression = 0 ∷ 0 ∷ 0 ∷ 0 ∷ []
+
+unfoldable pub customField : List ℕ → List ℕ
+customField custom = cond (eqb (length custom) 0) [] (fieldBytes 12 custom)
+
+-- the custom dictionary, where there is one, and the end
+abbrev pub endOf : List ℕ → List ℕ
+endOf custom = customField custom ++ fieldBytes 0 endBytes
+
+-- up to the master seed
+abbrev pub frontOf : ℕ → Cipher → List ℕ → List ℕ
+frontOf minor c seed =
+    versionBytes minor ++ fieldBytes 2 (identifier c) ++ fieldBytes 3 noCompression ++ fieldBytes 4 seed
+
+unfoldable pub headerBytes : ℕ → Cipher → List ℕ → List ℕ → List ℕ → ℕ → List ℕ → List ℕ
+headerBytes minor c seed nonce kdfSeed rounds custom =
+    versionBytes minor ++ fieldBytes 2 (identifier c) ++ fieldBytes 3 noCompression ++ fieldBytes 4 seed
+    ++ fieldBytes 7 nonce ++ fieldBytes 11 (kdfBytes kdfSeed rounds) ++ customField custom ++ fieldBytes 0 endBytes
+
+-- how many bytes a header has
+unfoldable pub headerLength : Cipher → ℕ → ℕ
+headerLength c n = 191 + nonceLength c + cond (eqb n 0) 0 (5 + n)
+
+-- 10 or 6, where there is a custom dictionary
+unfoldable pub customVerdict : List ℕ → Outcome
+customVerdict custom = cond (eqb (length custom) 0) outcome.Accepted (verdict custom)
+
+unfoldable pub checkedCustom : Cipher → Outcome → Checked
+checkedCustom c outcome.Accepted = As c
+checkedCustom c (outcome.Refused r) = Refused r
+
+-- 5 (seeds, nonce), 11, 10 or 6
+unfoldable pub checkedSizes : Cipher → List ℕ → List ℕ → List ℕ → ℕ → List ℕ → Checked
+checkedSizes c seed nonce kdfSeed rounds custom =
+    cond (eqb (length seed) 32)
+    (cond (eqb (length nonce) (nonceLength c))
+    (cond (eqb (length kdfSeed) 32)
+    (cond (leb rounds roundsLimit) (checkedCustom c (customVerdict custom)) (Refused TooManyRounds))
+    (Refused WrongSize))
+    (Refused WrongSize))
+    (Refused WrongSize)
+
+unfoldable pub checkedCipher : Identified → List ℕ → List ℕ → List ℕ → ℕ → List ℕ → Checked
+checkedCipher identified.Unlisted seed nonce kdfSeed rounds custom = Refused Unlisted
+checkedCipher (identified.As c) seed nonce kdfSeed rounds custom = checkedSizes c seed nonce kdfSeed rounds custom
+
+-- the writer's checks of a header's figures: minor version, cipher's identifier, and the rest
+unfoldable pub checked : ℕ → List ℕ → List ℕ → List ℕ → List ℕ → ℕ → List ℕ → Checked
+checked minor id seed nonce kdfSeed rounds custom =
+    cond (leb minor 1) (checkedCipher (cipherOf id) seed nonce kdfSeed rounds custom) (Refused WrongVersion)

@@ -1,0 +1,162 @@
+// The outer header that the writer lays down (document 01, "Header").
+//
+//   signatures, version | 2 cipher | 3 compression | 4 master seed | 7 nonce | 11 KDF dictionary | 12 custom | 0 end
+//
+// `check` makes the writer's checks of the figures, `write` lays the header, `header_len` tells its length beforehand. The
+// contracts cite specs/Written. Refusals: 4, 9, 5, 11, then 10 or 6.
+ghost use mathlib.Core.Path.{_≡_};
+ghost use Prim.Native.Nat.{_≤_};
+ghost use lib.ListN.{length, take};
+ghost use Rattle.slices.specs.Over.{laid, putAt};
+ghost use Rattle.header_writer.specs.Written as written;
+use ciphers::Cipher;
+use ciphers::Identified;
+use refusals::Outcome;
+use refusals::Refusal;
+
+// The cipher of figures that may be written, or why they may not.
+pub enum Checked {
+    As(Cipher),
+    Refused(Refusal),
+}
+
+// A custom dictionary may be absent: it has no bytes then.
+fn check_custom(c: Cipher, custom: &[u8]) -> Checked
+    ensures { λ r. ⌜ r ≡ written.checkedCustom c (written.customVerdict (now (custom .entry))) ⌝ }
+{
+    if custom.len() == 0 {
+        return Checked::As(c);
+    }
+    match dictionary::check(custom) {
+        Outcome::Accepted => return Checked::As(c),
+        Outcome::Refused(r) => return Checked::Refused(r),
+    }
+}
+
+// Sizes of seeds and nonce, rounds, custom dictionary.
+fn check_sizes(
+    c: Cipher,
+    seed: &[u8],
+    nonce: &[u8],
+    kdf_seed: &[u8],
+    rounds: u64,
+    custom: &[u8],
+) -> Checked
+    ensures { λ r. ⌜ r ≡ written.checkedSizes c (now (seed .entry)) (now (nonce .entry)) (now («kdf_seed» .entry)) rounds (now (custom .entry)) ⌝ }
+{
+    if seed.len() != 32 {
+        return Checked::Refused(Refusal::WrongSize);
+    }
+    if nonce.len() != c.nonce_len() {
+        return Checked::Refused(Refusal::WrongSize);
+    }
+    if kdf_seed.len() != 32 {
+        return Checked::Refused(Refusal::WrongSize);
+    }
+    if refusals::limits::rounds_fit(rounds) {
+        return check_custom(c, custom);
+    }
+    Checked::Refused(Refusal::TooManyRounds)
+}
+
+// Whether a header with these figures may be written.
+pub fn check(
+    minor: u16,
+    cipher: &[u8],
+    seed: &[u8],
+    nonce: &[u8],
+    kdf_seed: &[u8],
+    rounds: u64,
+    custom: &[u8],
+) -> Checked
+    ensures { λ r. ⌜ r ≡ written.checked minor (now (cipher .entry)) (now (seed .entry)) (now (nonce .entry)) (now («kdf_seed» .entry)) rounds (now (custom .entry)) ⌝ }
+{
+    if 1 < minor {
+        return Checked::Refused(Refusal::WrongVersion);
+    }
+    match ciphers::identify(cipher) {
+        Identified::Unlisted => return Checked::Refused(Refusal::Unlisted),
+        Identified::As(c) => return check_sizes(c, seed, nonce, kdf_seed, rounds, custom),
+    }
+}
+
+// The signatures and the version.
+fn version_bytes(minor: u16) -> [u8; 12]
+    ensures { λ r. ⌜ r ≡ written.versionBytes minor ⌝ }
+{
+    let v = words::le::bytes32(0x4_0000 + minor as u32);
+    [
+        0x03,
+        0xD9,
+        0xA2,
+        0x9A,
+        0x67,
+        0xFB,
+        0x4B,
+        0xB5,
+        v[0],
+        v[1],
+        v[2],
+        v[3],
+    ]
+}
+
+// Lays the signatures and version, and the fields 2, 3 and 4: 79 bytes.
+fn write_front(minor: u16, c: Cipher, seed: [u8; 32], out: &mut [u8])
+    ensures { λ _. ⌜ now (out .exit) ≡ laid (written.frontOf minor c seed) (now (out .entry)) ⌝ }
+{
+    let version = version_bytes(minor);
+    let id = c.identifier();
+    let none = [0u8; 4];
+    slices::put(out, 0, &version);
+    fields::put(out, 12, 2, &id);
+    fields::put(out, 33, 3, &none);
+    fields::put(out, 42, 4, &seed);
+}
+
+// Lays the custom dictionary, where there is one, and the end field.
+fn write_end(out: &mut [u8], at: usize, custom: &[u8])
+    requires { ⌜ at ≤ 198 ⌝ }
+    ensures { λ _. ⌜ now (out .exit) ≡ putAt at (written.endOf (now (custom .entry))) (now (out .entry)) ⌝ }
+{
+    let end = [0x0Du8, 0x0A, 0x0D, 0x0A];
+    if custom.len() == 0 {
+        fields::put(out, at, 0, &end);
+        return;
+    }
+    fields::put(out, at, 12, custom);
+    fields::put(out, at + 5 + custom.len(), 0, &end);
+}
+
+// Lays a header at the front of `out`, as far as there is room. A nonce has at most sixteen bytes; more are not looked at.
+pub fn write(
+    minor: u16,
+    c: Cipher,
+    seed: [u8; 32],
+    nonce: &[u8],
+    kdf_seed: [u8; 32],
+    rounds: u64,
+    custom: &[u8],
+    out: &mut [u8],
+)
+    ensures { λ _. ⌜ now (out .exit) ≡ laid (written.headerBytes minor c seed (take 16 (now (nonce .entry))) «kdf_seed» rounds (now (custom .entry))) (now (out .entry)) ⌝ }
+{
+    let n = slices::part(nonce, 0, 16);
+    let kdf = dictionary::kdf::write_kdf(kdf_seed, rounds);
+    let at = 84 + n.len();
+    write_front(minor, c, seed, out);
+    fields::put(out, 79, 7, n);
+    fields::put(out, at, 11, &kdf);
+    write_end(out, at + 98, custom);
+}
+
+// How many bytes a header with such a custom dictionary has.
+pub fn header_len(c: Cipher, custom: &[u8]) -> usize
+    ensures { λ r. ⌜ r ≡ written.headerLength c (length (now (custom .entry))) ⌝ }
+{
+    let n = 191 + c.nonce_len();
+    if custom.len() == 0 {
+        return n;
+    }
+    n + 5 + custom.len()
+}
