@@ -1,0 +1,65 @@
+-- The text of the header listing program: document 01, "Numbers to meet".
+--
+--   ".. as a line of upper-case hexadecimal"                       hexDigit, hexByte, hexLine
+--   "if the header is accepted, prints each frame .."              hexLines, frameLines, fieldLines, textOf
+--   "Otherwise one line, R and two decimal digits"                 refusalLine, textOf
+--   "a PC program's input: 65,536 bytes", else R01                 text
+--   "the lent output is shorter than the bytes due" (17)           answer, after
+-- Every line ends with a line feed, and nothing is printed for bytes behind the header.
+-- Not here: the frames (crate outer_header, Frames).
+-- Assumes nothing.
+use mathlib.Core.Bool.{cond}
+use mathlib.Core.List.{List, [], _∷_, _++_, flatMap}
+use Prim.Native.Nat.{ℕ, _+_, _-_, _/_, _%_}
+use lib.Dec.{leb, ltb}
+use lib.ListN.{length}
+use Rattle.slices.specs.Over.{over}
+use Rattle.refusals.specs.declared.Refusal.{Refusal}
+use Rattle.refusals.specs.declared.Refusal.the-variants.{TooLong, NoRoom}
+use Rattle.refusals.specs.declared.Written.{Written}
+use Rattle.refusals.specs.declared.Written.the-variants.{Wrote, Refused}
+use Rattle.refusals.specs.Numbers.{ofRefusal}
+use Rattle.refusals.specs.Limits.{programLimit}
+use Rattle.outer_header.specs.declared.Reading.{Reading}
+use Rattle.outer_header.specs.declared.Reading.the-variants as read
+use Rattle.outer_header.specs.Kdbx4Header.{header}
+use Rattle.outer_header.specs.Frames.{fieldFrames, frames}
+
+-- 0 to 9 and A to F
+unfoldable pub hexDigit : ℕ → ℕ
+hexDigit n = cond (ltb n 10) (0x30 + n) (0x41 + (n - 10))
+
+unfoldable pub hexByte : ℕ → List ℕ
+hexByte b = hexDigit (b / 16) ∷ hexDigit (b % 16) ∷ []
+
+unfoldable pub hexLine : List ℕ → List ℕ
+hexLine frame = flatMap hexByte frame ++ (0x0A ∷ [])
+
+unfoldable pub hexLines : List (List ℕ) → List ℕ
+hexLines fs = flatMap hexLine fs
+
+-- the lines of all frames, and of the fields alone
+abbrev pub frameLines : List ℕ → List ℕ
+frameLines s = hexLines (frames s)
+
+abbrev pub fieldLines : List ℕ → List ℕ
+fieldLines s = hexLines (fieldFrames (length s) s 12)
+
+-- R, the tens and the ones
+unfoldable pub refusalLine : Refusal → List ℕ
+refusalLine r = 0x52 ∷ (0x30 + ofRefusal r / 10) ∷ (0x30 + ofRefusal r % 10) ∷ 0x0A ∷ []
+
+unfoldable pub textOf : List ℕ → Reading → List ℕ
+textOf s (read.Header h) = frameLines s
+textOf s (read.Refused r) = refusalLine r
+
+-- what the program prints for an input
+unfoldable pub text : List ℕ → List ℕ
+text s = cond (leb (length s) programLimit) (textOf s (header s)) (refusalLine TooLong)
+
+-- the answer of writing w into d, and d afterwards: all of w, or nothing
+unfoldable pub answer : List ℕ → List ℕ → Written
+answer w d = cond (leb (length w) (length d)) (Wrote (length w)) (Refused NoRoom)
+
+unfoldable pub after : List ℕ → List ℕ → List ℕ
+after w d = cond (leb (length w) (length d)) (over w d) d

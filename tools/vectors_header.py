@@ -1,0 +1,359 @@
+#!/usr/bin/env python3
+"""Write what crates/vectors_header reads and must print, and what crates/list reads:   tools/vectors_header.py FIXTURES
+
+FIXTURES is the folder of vaults that other programs wrote, with its manifest.json: who does not have it cannot run this
+script, and needs only the files that it writes. Every expected listing is computed here, by a reader of outer headers
+of its own, which follows the requirements' page and shares no code with the library. The refusal's number of each
+damaged header is also told beside the case, by hand, and compared with what the reader says, but for those of
+`changed` and of other programs' vaults.
+"""
+import pathlib
+import sys
+
+from vaults import text_field, vaults
+
+PROGRAM_LIMIT = 65_536
+SIGNATURES = bytes.fromhex("03d9a29a67fb4bb5")
+AES = bytes.fromhex("31c1f2e6bf714350be5805216afc5aff")
+CHACHA20 = bytes.fromhex("d6038a2b8b6f4cb5a524339a31dbb59a")
+TWOFISH = bytes.fromhex("ad68f29f576f4bb9a36ad47af965346c")
+AES_KDF = bytes.fromhex("c9d9f39a628a4460bf740d08c18a4fea")
+ARGON2D = bytes.fromhex("ef636ddf8c29444b91f7a9a403e30a0c")
+END = b"\r\n\r\n"
+
+# the reader
+
+SIZES = {0: 4, 2: 16, 3: 4, 4: 32, 7: None, 11: None, 12: None}
+NONCE_SIZES = {AES: 16, CHACHA20: 12}
+ITEM_SIZES = {0x04: 4, 0x05: 8, 0x08: 1, 0x0C: 4, 0x0D: 8, 0x18: None, 0x42: None}
+
+
+class Refused(Exception):
+    pass
+
+
+def need(condition, number):
+    if not condition:
+        raise Refused(number)
+
+
+def int32(data, at):
+    return int.from_bytes(data[at : at + 4], "little", signed=True)
+
+
+def sound_items(d):
+    """The items of a dictionary, name to type and value."""
+    need(len(d) >= 2 and d[1] == 1, 10)
+    items, at = {}, 2
+    while True:
+        need(at < len(d), 10)
+        kind, at = d[at], at + 1
+        if kind == 0:
+            need(at == len(d), 10)
+            return items
+        need(kind in ITEM_SIZES, 10)
+        parts = []
+        for _ in range(2):
+            need(at + 4 <= len(d), 10)
+            size = int32(d, at)
+            need(0 <= size <= len(d) - at - 4, 10)
+            parts.append(d[at + 4 : at + 4 + size])
+            at += 4 + size
+        name, value = parts
+        need(ITEM_SIZES[kind] in (None, len(value)), 10)
+        need(name not in items, 6)
+        items[name] = kind, value
+
+
+def judge_kdf(d):
+    items = sound_items(d)
+    kind, value = items.get(b"$UUID", (None, b""))
+    need(kind == 0x42 and len(value) == 16, 10)
+    need(value == AES_KDF, 9)
+    kind, value = items.get(b"S", (None, b""))
+    need(kind == 0x42 and len(value) == 32, 10)
+    kind, value = items.get(b"R", (None, b""))
+    need(kind == 0x05, 10)
+    need(int.from_bytes(value, "little") <= 4_000_000, 11)
+
+
+def frames(data):
+    """The frames of an outer header, or Refused."""
+    need(len(data) >= 12, 2)
+    need(data[:8] == SIGNATURES, 3)
+    need(int.from_bytes(data[8:12], "little") in (0x40000, 0x40001), 4)
+    found, values, at = [data[:12]], {}, 12
+    while 0 not in values:
+        need(at + 5 <= len(data), 2)
+        id_, size = data[at], int32(data, at + 1)
+        need(id_ in SIZES, 7)
+        need(id_ not in values, 6)
+        need(size >= 0 and SIZES[id_] in (None, size), 5)
+        end = at + 5 + size
+        need(end <= len(data), 2)
+        values[id_] = data[at + 5 : end]
+        found.append(data[at:end])
+        need(id_ != 0 or values[0] == END, 5)
+        at = end
+    need(all(id_ in values for id_ in (2, 3, 4, 7, 11)), 8)
+    need(values[2] in NONCE_SIZES, 9)
+    need(values[3] == bytes(4), 9)
+    need(len(values[7]) == NONCE_SIZES[values[2]], 5)
+    judge_kdf(values[11])
+    if 12 in values:
+        sound_items(values[12])
+    return found
+
+
+def listing(data):
+    try:
+        need(len(data) <= PROGRAM_LIMIT, 1)
+        return 0, "".join(frame.hex().upper() + "\n" for frame in frames(data))
+    except Refused as refused:
+        number = refused.args[0]
+        return number, f"R{number:02}\n"
+
+
+# the cases
+
+def number(n, size):
+    return (n % 256**size).to_bytes(size, "little")
+
+
+def field(id_, value, size=None):
+    return bytes([id_]) + number(len(value) if size is None else size, 4) + value
+
+
+def item(kind, name, value, name_size=None, size=None):
+    return bytes([kind]) + field(0, name, name_size)[1:] + field(0, value, size)[1:]
+
+
+UUID = item(0x42, b"$UUID", AES_KDF)
+R = item(0x05, b"R", number(1, 8))
+S = item(0x42, b"S", b"\x33" * 32)
+
+
+def dictionary(*items, version=b"\x00\x01", end=b"\x00"):
+    return version + b"".join(items) + end
+
+
+def rounds(n):
+    return dictionary(UUID, item(0x05, b"R", number(n, 8)), S)
+
+
+KDF = dictionary(UUID, R, S)
+FIELDS = {2: CHACHA20, 3: bytes(4), 4: b"\x11" * 32, 7: b"\x22" * 12, 11: KDF}
+
+
+def header(version=0x40001, signatures=SIGNATURES, end=field(0, END), order=(2, 3, 4, 7, 11), before=b"", **changed):
+    """The worked header of the requirements' page, with changes: f2=VALUE replaces field 2, None leaves it out, f12
+    adds one; `before` stands in front of the end field."""
+    values = FIELDS | {int(name[1:]): value for name, value in changed.items()}
+    order = [*order, *(id_ for id_ in values if id_ not in order)]
+    parts = [field(id_, values[id_]) for id_ in order if values[id_] is not None]
+    return signatures + number(version, 4) + b"".join(parts) + before + end
+
+
+class Cases(list):
+    def case(self, name, data, expected, length=None):
+        """A file: the data, and zeros up to the length."""
+        length = len(data) if length is None else length
+        got, text = listing(data.ljust(length, b"\0"))
+        assert got == expected, (name, got, expected)
+        self.append((name, data, length, text))
+
+
+def accepted(cases):
+    cases.case("worked", header(), 0)
+    cases.case("version-4.0", header(0x40000), 0)
+    cases.case("aes", header(f2=AES, f7=b"\x22" * 16), 0)
+    cases.case("bytes-behind", header(), 0, 250)
+    cases.case("order-of-keepass-2", header(order=(2, 3, 4, 11, 7)), 0)
+    cases.case("order-reversed", header(order=(11, 7, 4, 3, 2)), 0)
+    cases.case("custom-least", header(f12=dictionary()), 0)
+    every = [item(kind, bytes([kind]), bytes(size or 3)) for kind, size in ITEM_SIZES.items()]
+    cases.case("custom-every-type", header(f12=dictionary(*every)), 0)
+    empty = [item(0x18, b"", b""), item(0x42, b"a", b"")]
+    cases.case("custom-empty-name-and-values", header(f12=dictionary(*empty)), 0)
+    cases.case("dictionary-low-version-byte", header(f11=dictionary(UUID, R, S, version=b"\x7f\x01")), 0)
+    cases.case("kdf-more-items", header(f11=dictionary(item(0x04, b"x", bytes(4)), S, R, UUID)), 0)
+    cases.case("rounds-0", header(f11=rounds(0)), 0)
+    cases.case("rounds-4000000", header(f11=rounds(4_000_000)), 0)
+    cases.case("custom-before-the-others", header(order=(12, 2, 3, 4, 7, 11), f12=dictionary()), 0)
+
+
+def length_and_front(cases):
+    whole = header()
+    cases.case("longest", whole, 0, PROGRAM_LIMIT)
+    cases.case("over", whole, 1, PROGRAM_LIMIT + 1)
+    cases.case("over-and-signature", b"", 1, PROGRAM_LIMIT + 1)
+    cases.case("longest-and-signature", b"", 3, PROGRAM_LIMIT)
+    cases.case("empty", b"", 2)
+    for n in (1, 11, 12, 13, 16, 17, 20, 32, 33, 78, 100, 193, 198, 199, 202):
+        cases.case(f"cut-{n}", whole[:n], 2)
+    cases.case("eleven-and-signature", bytes(11), 2)
+    cases.case("first-signature", header(signatures=bytes(4) + SIGNATURES[4:]), 3)
+    cases.case("second-signature", header(signatures=SIGNATURES[:4] + bytes(4)), 3)
+    cases.case("keepass-1-signature", header(signatures=SIGNATURES[:4] + bytes.fromhex("65fb4bb5")), 3)
+    cases.case("signature-and-version", header(0x50000, signatures=bytes(8)), 3)
+    cases.case("signature-of-twelve", bytes(12), 3)
+    for version in (0x30001, 0x3FFFF, 0x40002, 0x50000, 0x4, 0x10004):
+        cases.case(f"version-{version:x}", header(version), 4)
+    cases.case("version-of-twelve", header(0x40002)[:12], 4)
+    cases.case("version-and-unknown-field", header(0x40002, before=field(1, b"")), 4)
+
+
+def fields(cases):
+    for id_ in (1, 5, 6, 8, 9, 10, 13, 255):
+        cases.case(f"unknown-{id_}", header(before=field(id_, b"abc")), 7)
+    cases.case("unknown-and-negative", header(before=field(1, b"", -1)), 7)
+    cases.case("unknown-and-value-cut", header(before=field(1, b"", 1000)), 7)
+    cases.case("unknown-and-five-bytes-cut", header(end=field(1, b"")[:4]), 2)
+    cases.case("unknown-before-repeated", header(before=field(1, b"") + field(2, AES)), 7)
+    for id_, value in (FIELDS | {12: dictionary()}).items():
+        before = field(12, value) if id_ == 12 else b""
+        cases.case(f"repeated-{id_}", header(before=before + field(id_, value)), 6)
+    cases.case("repeated-and-size", header(before=field(2, AES[:15])), 6)
+    cases.case("repeated-and-negative", header(before=field(7, b"", -1)), 6)
+    cases.case("repeated-and-value-cut", header(before=field(4, b"", 32)[:20], end=b""), 6)
+    cases.case("repeated-and-absent", header(f3=None, before=field(2, AES)), 6)
+    for id_ in (2, 3, 4, 7, 11, 12):
+        cases.case(f"negative-{id_}", header(**{f"f{id_}": None}, before=field(id_, b"", -1)), 5)
+    cases.case("negative-0", header(end=field(0, END, -1)), 5)
+    cases.case("negative-least", header(f11=None, before=field(11, b"", -(2**31))), 5)
+    for id_, size in ((2, 15), (2, 17), (2, 0), (3, 0), (3, 5), (4, 31), (4, 33)):
+        cases.case(f"size-{id_}-{size}", header(**{f"f{id_}": bytes(size)}), 5)
+    cases.case("size-and-value-cut", header(order=(2, 3, 4, 11, 7))[:12] + field(2, b"", 15), 5)
+    cases.case("end-empty", header(end=field(0, b"")), 5)
+    cases.case("end-of-five", header(end=field(0, END + b"\n")), 5)
+    for i in range(4):
+        cases.case(f"end-byte-{i}", header(end=field(0, END[:i] + b"x" + END[i + 1 :])), 5)
+    cases.case("end-bytes-and-absent", header(f3=None, end=field(0, bytes(4))), 5)
+    cases.case("end-cut", header(end=field(0, END[:3], 4)), 2)
+    for id_ in (7, 11, 12):
+        cases.case(f"value-cut-{id_}", header(**{f"f{id_}": None}, before=field(id_, b"", 0x7FFFFFFF)), 2)
+    cases.case("value-cut-by-one", header(f11=None, before=field(11, KDF, len(KDF) + 1), end=b""), 2)
+    cases.case("no-end", header(end=b""), 2)
+
+
+def after_the_end(cases):
+    for id_ in (2, 3, 4, 7, 11):
+        cases.case(f"absent-{id_}", header(**{f"f{id_}": None}), 8)
+    cases.case("absent-all", header(f2=None, f3=None, f4=None, f7=None, f11=None), 8)
+    cases.case("absent-all-but-custom", header(f2=None, f3=None, f4=None, f7=None, f11=None, f12=dictionary()), 8)
+    cases.case("absent-and-cipher", header(f2=TWOFISH, f11=None), 8)
+    cases.case("cipher", header(f2=TWOFISH, f7=bytes(16)), 9)
+    cases.case("cipher-last-byte", header(f2=CHACHA20[:15] + b"\x9b"), 9)
+    cases.case("cipher-and-compression", header(f2=TWOFISH, f3=number(1, 4)), 9)
+    cases.case("cipher-and-nonce", header(f2=TWOFISH, f7=bytes(3)), 9)
+    cases.case("compression-gzip", header(f3=number(1, 4)), 9)
+    cases.case("compression-last-byte", header(f3=bytes(3) + b"\x80"), 9)
+    cases.case("compression-and-nonce", header(f3=number(1, 4), f7=b""), 9)
+    for size in (0, 8, 11, 13, 16):
+        cases.case(f"nonce-chacha20-{size}", header(f7=bytes(size)), 5)
+    for size in (12, 15, 17):
+        cases.case(f"nonce-aes-{size}", header(f2=AES, f7=bytes(size)), 5)
+    cases.case("nonce-and-kdf", header(f7=bytes(16), f11=b""), 5)
+    cases.case("nonce-and-custom", header(f7=bytes(16), f12=b""), 5)
+
+
+def kdf(cases):
+    def kdf_case(name, d, expected):
+        cases.case(f"kdf-{name}", header(f11=d), expected)
+
+    kdf_case("empty", b"", 10)
+    kdf_case("two-bytes", b"\x00\x01", 10)
+    kdf_case("no-end", dictionary(UUID, R, S, end=b""), 10)
+    kdf_case("bytes-behind-end", dictionary(UUID, R, S, end=b"\x00\x00"), 10)
+    kdf_case("version-2", dictionary(UUID, R, S, version=b"\x00\x02"), 10)
+    kdf_case("version-0", dictionary(UUID, R, S, version=b"\x01\x00"), 10)
+    kdf_case("type-01", dictionary(UUID, R, S, item(0x01, b"x", b"")), 10)
+    kdf_case("name-negative", dictionary(UUID, R, S, item(0x18, b"x", b"", -1)), 10)
+    kdf_case("name-cut", dictionary(UUID, R, S, item(0x18, b"x", b"", 100)), 10)
+    kdf_case("value-negative", dictionary(UUID, R, S, item(0x18, b"x", b"", None, -1)), 10)
+    kdf_case("value-cut", dictionary(UUID, R, S, item(0x18, b"x", b"", None, 2)), 10)
+    kdf_case("value-to-the-end", dictionary(UUID, R, S, item(0x18, b"x", b"", None, 1)), 10)
+    for kind, size in ITEM_SIZES.items():
+        if size is not None:
+            kdf_case(f"size-{kind:02x}", dictionary(UUID, R, S, item(kind, b"x", bytes(size + 1))), 10)
+    kdf_case("repeated-name", dictionary(UUID, R, S, R), 6)
+    kdf_case("repeated-name-other-type", dictionary(UUID, R, S, item(0x18, b"R", b"")), 6)
+    kdf_case("repeated-name-broken-item", dictionary(UUID, R, S, item(0x05, b"R", bytes(7))), 10)
+    kdf_case("repeated-name-then-broken", dictionary(UUID, R, R, S, item(0x01, b"x", b"")), 6)
+    kdf_case("broken-then-repeated-name", dictionary(UUID, R, item(0x01, b"x", b""), R, S), 10)
+    kdf_case("least", dictionary(), 10)
+    kdf_case("no-uuid", dictionary(R, S), 10)
+    kdf_case("uuid-as-string", dictionary(item(0x18, b"$UUID", AES_KDF), R, S), 10)
+    kdf_case("uuid-of-15", dictionary(item(0x42, b"$UUID", AES_KDF[:15]), R, S), 10)
+    kdf_case("uuid-lower-case-name", dictionary(item(0x42, b"$uuid", AES_KDF), R, S), 10)
+    kdf_case("argon2", dictionary(item(0x42, b"$UUID", ARGON2D), R, S), 9)
+    kdf_case("argon2-and-no-seed", dictionary(item(0x42, b"$UUID", ARGON2D)), 9)
+    kdf_case("argon2-and-repeated-name", dictionary(item(0x42, b"$UUID", ARGON2D), R, R), 6)
+    kdf_case("no-seed", dictionary(UUID, R), 10)
+    kdf_case("seed-as-string", dictionary(UUID, R, item(0x18, b"S", bytes(32))), 10)
+    kdf_case("seed-of-31", dictionary(UUID, R, item(0x42, b"S", bytes(31))), 10)
+    kdf_case("no-rounds", dictionary(UUID, S), 10)
+    kdf_case("rounds-as-uint32", dictionary(UUID, S, item(0x04, b"R", number(1, 4))), 10)
+    kdf_case("rounds-as-int64", dictionary(UUID, S, item(0x0D, b"R", number(1, 8))), 10)
+    kdf_case("rounds-4000001", rounds(4_000_001), 11)
+    kdf_case("rounds-2^63", rounds(2**63), 11)
+    kdf_case("rounds-2^64-1", rounds(2**64 - 1), 11)
+    kdf_case("rounds-over-and-no-seed", dictionary(UUID, item(0x05, b"R", number(2**32, 8))), 10)
+
+
+def custom(cases):
+    def custom_case(name, d, expected, **changed):
+        cases.case(f"custom-{name}", header(f12=d, **changed), expected)
+
+    twice = dictionary(R, R)
+    custom_case("empty", b"", 10)
+    custom_case("no-end", dictionary(R, end=b""), 10)
+    custom_case("version-2", dictionary(version=b"\x00\x02"), 10)
+    custom_case("repeated-name", twice, 6)
+    custom_case("broken-and-kdf-repeated-name", b"", 6, f11=dictionary(UUID, R, R, S))
+    custom_case("broken-and-kdf-argon2", b"", 9, f11=dictionary(item(0x42, b"$UUID", ARGON2D), R, S))
+    custom_case("broken-and-rounds-over", b"", 11, f11=rounds(4_000_001))
+    custom_case("repeated-name-and-kdf-broken", twice, 10, f11=dictionary(R, S))
+
+
+def changed(cases):
+    """The worked header with one byte raised by one, for every third byte."""
+    whole = header()
+    for i in range(0, len(whole), 3):
+        data = whole[:i] + number(whole[i] + 1, 1) + whole[i + 1 :]
+        cases.case(f"changed-{i}", data, listing(data)[0])
+
+
+def written(cases, folder):
+    """The headers of other programs' vaults, each with the first bytes behind it."""
+    for vault in vaults(folder):
+        data = vault.file[: len(vault.header) + 16]
+        assert listing(data) == listing(vault.file), vault.name
+        cases.case(vault.name, data, listing(data)[0])
+
+
+def main(folder):
+    crates = pathlib.Path(__file__).parent.parent / "crates"
+    cases = Cases()
+    accepted(cases)
+    length_and_front(cases)
+    fields(cases)
+    after_the_end(cases)
+    kdf(cases)
+    custom(cases)
+    changed(cases)
+    written(cases, folder)
+    names = [name for name, _, _, _ in cases]
+    assert len(names) == len(set(names))
+    table = "".join(f"{name} {text_field(data)} {length}\n" for name, data, length, _ in cases)
+    out = "".join(f"{name}\n{text}" for name, _, _, text in cases)
+    assert len(table) <= 131_072
+    (crates / "vectors_header" / "stdin").write_text(table)
+    (crates / "vectors_header" / "stdout").write_text(out)
+    (crates / "list" / "stdin").write_bytes(header())
+    (crates / "list" / "stdout").write_text(listing(header())[1])
+
+
+if len(sys.argv) != 2:
+    sys.exit(__doc__)
+main(pathlib.Path(sys.argv[1]))
