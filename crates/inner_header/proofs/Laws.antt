@@ -1,0 +1,19 @@
+-- Laws of the inner header.
+--
+-- In order:
+--   Walk      one turn of the walk, its count, and what is kept of the fields
+--   Sound     every attachment has its flags byte, within the payload
+--   Opened    the answers, by what is kept of the fields
+--   Run       the walk over a run of attachments
+--   Laid      bytes laid one behind the other into a lent output
+--   Planned   what a payload that is written passed
+--   Payload   the walk over a payload that is written
+--   Values    a run that is made of attachments' values
+pub mod Walk
+pub mod Sound
+pub mod Opened
+pub mod Run
+pub mod Laid
+pub mod Planned
+pub mod Payload
+pub mod Values
