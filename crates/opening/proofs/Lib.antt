@@ -1,0 +1,5 @@
+-- Demand 3 behind the header: Theorem.agrees.
+pub mod Laws
+pub mod Theorem
+pub mod Converse
+pub mod Worked
