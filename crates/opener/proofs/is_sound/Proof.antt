@@ -1,0 +1,28 @@
+-- `opener::is_sound` meets its contract. Assumes nothing.
+use mathlib.Core.Path.{sym, _∙_}
+use Rattle.opener.proofs.Laws.Sound.{sound-far, sound-short, sound-count}
+use borrow.Author.Needs.{needs}
+use Rattle.opener.proofs.is_sound.Statement.{statement}
+use Rattle.opener.proofs.is_sound.Tie as tie
+
+returns : tie.Need-returns
+returns c =
+    let at-fits = c .before .before in
+    let a = at-fits .before .args in
+    sym (sound-short (a .number) (a .at) (a .taken) (sym (at-fits .file-fits .ensures) ∙ c .before .if1 .taken)
+    (c .if2 .taken))
+
+returns-2 : tie.Need-returns-2
+returns-2 c =
+    let at-fits = c .before .before in
+    let a = at-fits .before .args in
+    sound-count (a .number) (a .at) (a .taken) (sym (at-fits .file-fits .ensures) ∙ c .before .if1 .taken)
+    (c .if2 .left)
+
+returns-3 : tie.Need-returns-3
+returns-3 c =
+    let a = c .before .before .args in
+    sym (sound-far (a .number) (a .at) (a .taken) (sym (c .before .file-fits .ensures) ∙ c .if1 .left))
+
+pub is-sound-spec : {M : Type 1} → statement M
+is-sound-spec = tie.close (tie.spec (λ c κs. search needs) returns returns-2 returns-3)
