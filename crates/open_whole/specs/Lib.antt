@@ -1,0 +1,2 @@
+pub mod Ciphertext
+pub mod Checks
