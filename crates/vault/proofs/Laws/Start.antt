@@ -1,0 +1,132 @@
+-- A vault's start.
+--
+-- In order:
+--   over-padded                     a copy into sixteen zeros
+--   length-padded                   .. has sixteen bytes
+--   seed-is, nonce-le               an accepted header's seed has 32 bytes, its nonce at most sixteen
+--   nonce-keysFor, nonce-keysOf     the nonce of the keys has sixteen bytes
+--   Starts, start-begun             an accepted start's header, keys and place
+-- Assumes nothing.
+use mathlib.Core.Path.{_≡_, refl, sym, ap, ap₂, _∙_}
+use mathlib.Core.Bool.{Bool, true, false, cond}
+use mathlib.Core.List.{List, _++_}
+use Prim.Native.Nat.{ℕ, _+_, _-_, _≤_, _<_}
+use native.Mathlib.Omega.{arith}
+use lib.Dec.{ltb}
+use lib.ListN.{length, take, drop, replicate, length-append, length-replicate, length-take, length-drop}
+use lib.Seq.{take-all, length-take-le}
+use borrow.Author.Tests.{ltb-false}
+use Rattle.words.proofs.Laws.Cases.{by-bool}
+use Rattle.slices.specs.Over.{over}
+use Rattle.slices.proofs.Laws.Zeros.{drop-zeros}
+use Rattle.refusals.specs.Limits.{fileLimit}
+use Rattle.refusals.specs.declared.Refusal.{Refusal}
+use Rattle.refusals.specs.declared.Refusal.the-variants.{CutShort, HeaderHash, HeaderTag}
+use Rattle.ciphers.specs.Ciphers.{nonceLength}
+use Rattle.ciphers.specs.declared.Cipher.{Cipher}
+use Rattle.ciphers.specs.declared.Cipher.the-variants.{Aes256, ChaCha20}
+use Rattle.fields.specs.Fields.{bytesAt}
+use Rattle.outer_header.specs.Kdbx4Header.{header}
+use Rattle.outer_header.specs.declared.Header.{Header}
+use Rattle.outer_header.specs.declared.Reading.{Reading}
+use Rattle.outer_header.specs.declared.Reading.the-variants as read
+use Rattle.outer_header.proofs.Laws.Accepted.{HeaderStands, header-stands}
+use Rattle.opening.specs.declared.Keys.{Keys}
+use Rattle.opening.specs.Steps.{padded}
+use Rattle.vault_keys.specs.VaultKeys.{keysFor, keysWith}
+use Rattle.vault.specs.Vault.{keysOf, hashHolds, tagHolds, startAt, startIn, start, Begun, barred, begun}
+
+pub over-padded : (s : List ℕ) → length s ≤ 16 → over (take 16 s) (replicate 16 0) ≡ padded s
+unfolding over padded
+over-padded s h =
+    rw (take-all 16 s h) (ap (λ (z : List ℕ). s ++ z) (drop-zeros (length s) 16 h))
+
+pub length-padded : (s : List ℕ) → length s ≤ 16 → length (padded s) ≡ 16
+unfolding padded
+length-padded s h = simp (length-append, length-replicate) (omega arith)
+
+-- a place within a list has as many bytes as it says
+length-within : (s : List ℕ) (start n : ℕ) → start + n ≤ length s → length (take n (drop start s)) ≡ n
+length-within s start n h = length-take-le n (drop start s) (simp length-drop (omega arith))
+
+nonceLength-le : (c : Cipher) → nonceLength c ≤ 16
+unfolding nonceLength
+nonceLength-le Aes256 = omega arith
+nonceLength-le ChaCha20 = omega arith
+
+module _ (f : List ℕ) (h : Header) (e : header f ≡ read.Header h) where
+  stands : HeaderStands f h
+  stands = header-stands f h e
+
+  pub seed-is : length (bytesAt f (h .seed)) ≡ 32
+  seed-is =
+      let b = stands .length-le in
+      let w = stands .seed-within in
+      length-within f (h .seed .start) (h .seed .length) (omega arith) ∙ stands .seed-length
+
+  pub nonce-le : length (bytesAt f (h .nonce)) ≤ 16
+  nonce-le =
+      let b = stands .length-le in
+      let w = stands .nonce-within in
+      let n = nonceLength-le (h .cipher) in
+      let l = stands .nonce-length in
+      rw (length-within f (h .nonce .start) (h .nonce .length) (omega arith)) (omega arith)
+
+pub nonce-keysFor : (c : Cipher) (key nonce base : List ℕ) → keysFor c key nonce base .nonce ≡ nonce
+unfolding keysFor
+nonce-keysFor Aes256 key nonce base = refl
+nonce-keysFor ChaCha20 key nonce base = refl
+
+pub nonce-keysOf : (t f : List ℕ) (h : Header) → header f ≡ read.Header h → length (keysOf t f h .nonce) ≡ 16
+unfolding keysOf keysWith
+nonce-keysOf t f h e =
+    ap length (nonce-keysFor (h .cipher) _ (padded (bytesAt f (h .nonce))) _)
+    ∙ length-padded (bytesAt f (h .nonce)) (nonce-le f h e)
+
+-- an accepted start: the keys are the header's, and the first block stands behind its tag
+pub record Starts (t f : List ℕ) (k : Keys) (p : ℕ) : Type 0 where
+  pub said : Header
+  pub reads : header f ≡ read.Header said
+  pub keys-are : k ≡ keysOf t f said
+  pub place-is : p ≡ said .length + 64
+  pub inside : p ≤ length f
+
+barred-never : (r : Refusal) (k : Keys) (p : ℕ) → barred r ≡ begun k p → ⊥
+barred-never r k p e = let z : _≡_ {A = ℕ} 0 1 = cc in omega arith
+
+-- what startAt begins with
+record Passes (f : List ℕ) (n : ℕ) (x k : Keys) (p : ℕ) : Type 0 where
+  same-keys : k ≡ x
+  behind : p ≡ n + 64
+  present : 64 ≤ length f - n
+
+startAt-begun : (f : List ℕ) (n : ℕ) (x k : Keys) (p : ℕ) → startAt f n x ≡ begun k p → Passes f n x k p
+unfolding startAt
+startAt-begun f n x k p =
+    by-bool (ltb (length f - n) 64)
+    (λ a. rw a (λ e. absurd (barred-never CutShort k p e)))
+    (λ a.
+    by-bool (hashHolds f n)
+    (λ b.
+    by-bool (tagHolds (x .base) f n)
+    (λ d. rw (a, b, d) (λ e. record {
+      same-keys = cc;
+      behind = cc;
+      present = ltb-false (length f - n) 64 a;
+    }))
+    (λ d. rw (a, b, d) (λ e. absurd (barred-never HeaderTag k p e))))
+    (λ b. rw (a, b) (λ e. absurd (barred-never HeaderHash k p e))))
+
+startIn-begun : (t f : List ℕ) (z : Reading) (k : Keys) (p : ℕ) → header f ≡ z → startIn t f z ≡ begun k p → Starts t f k p
+unfolding startIn
+startIn-begun t f (read.Refused r) k p e h = absurd (barred-never r k p h)
+startIn-begun t f (read.Header said) k p e h =
+    let x = startAt-begun f (said .length) (keysOf t f said) k p h in
+    let l = header-stands f said e .length-le in
+    let b = x .behind in
+    let c = x .present in
+    record { said = said; reads = e; keys-are = x .same-keys; place-is = b; inside = omega arith }
+
+pub start-begun : (t f : List ℕ) (k : Keys) (p : ℕ) → start t f ≡ begun k p → Starts t f k p
+unfolding start
+start-begun t f k p h = startIn-begun t f (header f) k p refl h
