@@ -1,0 +1,184 @@
+-- The blocks of a ciphertext, one behind the other.
+--
+-- In order:
+--   blocksFrom-same                             the count that ends them need only be large enough
+--   blocks-none, blocks-full, blocks-last       nothing left, a full block before the rest, the last one
+--   length-blocks                               how long they are
+--   block-file                                  a block is no larger than a file
+--   blocks-cut                                  a full block of a payload before the rest
+--   blocks-turn                                 one turn of the loop that writes them
+-- Not here: how code lays them (Laying).
+-- Assumes nothing.
+use mathlib.Core.Path.{_≡_, refl, sym, ap, ap₂, _∙_}
+use mathlib.Core.Bool.{Bool, true, false, cond}
+use mathlib.Core.List.{List, [], _++_}
+use Prim.Native.Nat.{ℕ, zero, suc, _+_, _-_, _*_, _/_, _%_, _≤_, _<_}
+use native.Mathlib.Nat.{div-eq-of-lt, div-eq-sub-div}
+use native.Mathlib.Omega.{arith}
+use lib.Dec.{eqb, leb}
+use lib.ListN.{length, take, drop, length-append, length-drop, drop-of-length-le, take-append-drop}
+use lib.Seq.{take-all, take-at, take-add, drop-at, drop-drop, length-take-le}
+use borrow.Author.Tests.{eq-eqb, ne-eqb, eqb-true, eqb-false, leb-true, leb-false}
+use Rattle.words.proofs.Laws.Cases.{by-bool}
+use Rattle.refusals.specs.Limits.{fileLimit, writtenBlock}
+use Rattle.refusals.proofs.Laws.Limits.{block-positive, block-pieces}
+use Rattle.block_stream.specs.Blocks.{blockBytes}
+use Rattle.block_stream.proofs.Laws.Judged.{length-blockBytes}
+use Rattle.opening.specs.declared.Keys.{Keys}
+use Rattle.writer.specs.Written.{blocksFrom}
+use Rattle.writer.specs.Stretches.{stretchBy, prevBy, textOf, blocksAt, blocksLength, lastBlocks}
+use Rattle.writer.proofs.Laws.Stretches.{textOf-append, stretch-append, length-stretch}
+
+shorter : (t : List ℕ) (m : ℕ) → length t ≤ suc m → (length t ≡ 0 → ⊥) → length (drop writtenBlock t) ≤ m
+shorter t m h n = omega (arith, length-drop writtenBlock t, block-positive)
+
+pub blocksFrom-same : (m n : ℕ) (base : List ℕ) (i : ℕ) (t : List ℕ) → length t ≤ m → length t ≤ n
+    → blocksFrom m base i t ≡ blocksFrom n base i t
+unfolding blocksFrom
+blocksFrom-same zero zero base i t h l = refl
+blocksFrom-same zero (suc n) base i t h l =
+    let e : length t ≡ 0 = omega arith in
+    rw (eq-eqb (length t) 0 e)
+blocksFrom-same (suc m) zero base i t h l =
+    let e : length t ≡ 0 = omega arith in
+    rw (eq-eqb (length t) 0 e)
+blocksFrom-same (suc m) (suc n) base i t h l =
+    by-bool (eqb (length t) 0) (λ e. rw e)
+    (λ e.
+    let d = eqb-false (length t) 0 e in
+    rw e (ap (λ (r : List ℕ). blockBytes base i (take writtenBlock t) ++ r)
+    (blocksFrom-same m n base (suc i) (drop writtenBlock t) (shorter t m h d) (shorter t n l d))))
+
+pub blocks-none : (base : List ℕ) (i : ℕ) (t : List ℕ) → length t ≡ 0 → blocksAt base i t ≡ blockBytes base i []
+unfolding blocksFrom
+blocks-none base i t e = rw e
+
+-- a block before the rest
+blocks-some : (base : List ℕ) (i : ℕ) (t : List ℕ) (m : ℕ) → length t ≡ suc m
+    → blocksAt base i t ≡ blockBytes base i (take writtenBlock t) ++ blocksAt base (suc i) (drop writtenBlock t)
+unfolding blocksFrom
+blocks-some base i t m e =
+    let n : length t ≡ 0 → ⊥ = λ z. omega arith in
+    let f = shorter t m (omega arith) n in
+    rw (e, ne-eqb (length t) 0 n)
+    (ap (λ (r : List ℕ). blockBytes base i (take writtenBlock t) ++ r)
+    (blocksFrom-same m (length (drop writtenBlock t)) base (suc i) (drop writtenBlock t) f (omega arith)))
+
+pub blocks-full : (base : List ℕ) (i : ℕ) (a b : List ℕ) → length a ≡ writtenBlock
+    → blocksAt base i (a ++ b) ≡ blockBytes base i a ++ blocksAt base (suc i) b
+blocks-full base i a b e =
+    let n : length (a ++ b) ≡ suc (writtenBlock - 1 + length b) = omega (arith, length-append a b, block-positive) in
+    blocks-some base i (a ++ b) _ n ∙ rw (take-at a b writtenBlock e, drop-at a b writtenBlock e)
+
+pub blocks-last : (base : List ℕ) (i : ℕ) (a : List ℕ) → (length a ≡ 0 → ⊥) → length a ≤ writtenBlock
+    → blocksAt base i a ≡ blockBytes base i a ++ blockBytes base (suc i) []
+blocks-last base i a n h =
+    let m : length a ≡ suc (length a - 1) = omega arith in
+    let e : drop writtenBlock a ≡ [] = drop-of-length-le a h in
+    blocks-some base i a _ m ∙ rw (take-all writtenBlock a h, e) (ap (λ (r : List ℕ). blockBytes base i a ++ r)
+    (blocks-none base (suc i) [] refl))
+
+-- rounding up: none, one, and one more
+round-none : (n : ℕ) → 0 < n → (0 + (n - 1)) / n ≡ 0
+round-none n h = div-eq-of-lt (omega arith)
+
+round-more : (t n : ℕ) → 0 < n → 0 < t → (t + (n - 1)) / n ≡ (t - n + (n - 1)) / n + 1
+round-more t n h l =
+    by-bool (leb n t)
+    (λ e.
+    let g = leb-true n t e in
+    let f : t + (n - 1) - n ≡ t - n + (n - 1) = omega arith in
+    div-eq-sub-div h (omega arith) ∙ ap (λ (x : ℕ). x / n + 1) f)
+    (λ e.
+    let g = leb-false n t e in
+    let f : t + (n - 1) - n ≡ t - 1 = omega arith in
+    let k : t - n + (n - 1) ≡ n - 1 = omega arith in
+    let a : t - 1 < n = omega arith in
+    let b : n - 1 < n = omega arith in
+    div-eq-sub-div h (omega arith) ∙ ap (λ (x : ℕ). x / n + 1) f ∙ rw (k, div-eq-of-lt a, div-eq-of-lt b))
+
+length-from : (m : ℕ) (base : List ℕ) (i : ℕ) (t : List ℕ) → length t ≤ m
+    → length (blocksFrom m base i t) ≡ blocksLength (length t)
+unfolding blocksFrom blocksLength
+length-from zero base i t h =
+    let e : length t ≡ 0 = omega arith in
+    length-blockBytes base [] i ∙ rw (e, round-none writtenBlock block-positive)
+length-from (suc m) base i t h =
+    by-bool (eqb (length t) 0)
+    (λ e. rw (e, eqb-true (length t) 0 e, round-none writtenBlock block-positive) (length-blockBytes base [] i))
+    (λ e.
+    let d = eqb-false (length t) 0 e in
+    let l = shorter t m h d in
+    let r = round-more (length t) writtenBlock block-positive (omega arith) in
+    let f = length-from m base (suc i) (drop writtenBlock t) l in
+    let g : length (take writtenBlock t) + length (drop writtenBlock t) ≡ length t =
+    sym (length-append (take writtenBlock t) (drop writtenBlock t)) ∙ ap length (take-append-drop writtenBlock t) in
+    rw (e, length-append, length-blockBytes, f, r, length-drop) (omega (arith, g, length-drop writtenBlock t)))
+
+pub length-blocks : (base : List ℕ) (i : ℕ) (t : List ℕ) → length (blocksAt base i t) ≡ blocksLength (length t)
+length-blocks base i t = length-from (length t) base i t (omega arith)
+
+pub block-file : writtenBlock ≤ fileLimit
+unfolding writtenBlock fileLimit
+block-file = omega arith
+
+-- a block of a payload, encrypted, before the rest of it chained to the block
+pub blocks-cut : (k : Keys) (v : List ℕ) (i p : ℕ) (a b : List ℕ) → length v ≡ 16 → length a ≡ writtenBlock
+    → lastBlocks k v i p (a ++ b)
+    ≡ blockBytes (k .base) i (stretchBy (k .cipher) k v p a)
+    ++ lastBlocks k (prevBy (k .cipher) k v a) (suc i) (p + length a) b
+blocks-cut k v i p a b lv la =
+    let c = k .cipher in
+    let h : length a % 16 ≡ 0 = omega (arith, block-pieces) in
+    let t : stretchBy c k v p (textOf c (a ++ b))
+    ≡ stretchBy c k v p a ++ stretchBy c k (prevBy c k v a) (p + length a) (textOf c b) =
+    ap (stretchBy c k v p) (textOf-append c a b h) ∙ stretch-append c k v p a (textOf c b) lv h in
+    ap (blocksAt (k .base) i) t
+    ∙ blocks-full (k .base) i (stretchBy c k v p a) (stretchBy c k (prevBy c k v a) (p + length a) (textOf c b))
+    (length-stretch c k v p a lv h ∙ la)
+
+-- what stands behind `at` begins with b
+module _ (w b r : List ℕ) (at m : ℕ) (e : drop at w ≡ b ++ r) (l : length b ≡ m) where
+  next-take : take (at + m) w ≡ take at w ++ b
+  next-take = take-add at m w ∙ ap (λ (z : List ℕ). take at w ++ z) (ap (take m) e ∙ take-at b r m l)
+
+  next-drop : drop (at + m) w ≡ r
+  next-drop = sym (drop-drop m at w) ∙ ap (drop m) e ∙ drop-at b r m l
+
+  next-le : at ≤ length w → at + m ≤ length w
+  next-le h = omega (arith, length-drop at w, ap length e, length-append b r)
+
+-- a turn: the piece a of the payload d, from p on, and its block of the blocks w, from `at` on
+pub record Turned (k : Keys) (w d v a : List ℕ) (i p at n : ℕ) : Type 0 where
+  pub written : take (at + (36 + n)) w ≡ take at w ++ blockBytes (k .base) i (stretchBy (k .cipher) k v p a)
+  pub left : drop (at + (36 + n)) w ≡ lastBlocks k (prevBy (k .cipher) k v a) (i + 1) (p + n) (drop (p + n) d)
+  pub fits : at + (36 + n) ≤ length w
+  pub piece : length a ≡ n
+  pub pieces : n % 16 ≡ 0
+
+pub blocks-turn : (k : Keys) (w d v a : List ℕ) (i p at n m : ℕ) → n ≡ writtenBlock → length v ≡ 16 → p + n ≤ length d
+    → at ≤ length w → m ≡ n → a ≡ take m (drop p d) → drop at w ≡ lastBlocks k v i p (drop p d)
+    → Turned k w d v a i p at n
+blocks-turn k w d v a i p at n m en lv l la em ea e =
+    let c = k .cipher in
+    let f : a ≡ take n (drop p d) = ea ∙ ap (λ (j : ℕ). take j (drop p d)) em in
+    let g : length a ≡ n = ap length f ∙ length-take-le n (drop p d) (simp length-drop (omega arith)) in
+    let h : length a % 16 ≡ 0 = omega (arith, block-pieces) in
+    let r = drop (p + n) d in
+    let s : drop p d ≡ a ++ r =
+    sym (take-append-drop n (drop p d)) ∙ ap₂ (λ (x y : List ℕ). x ++ y) (sym f) (drop-drop n p d) in
+    let b = blockBytes (k .base) i (stretchBy c k v p a) in
+    let j : suc i ≡ i + 1 = omega arith in
+    let q : p + length a ≡ p + n = omega arith in
+    let z = lastBlocks k (prevBy c k v a) (i + 1) (p + n) r in
+    let t : drop at w ≡ b ++ z =
+    e ∙ ap (lastBlocks k v i p) s ∙ blocks-cut k v i p a r lv (g ∙ en)
+    ∙ ap₂ (λ (x y : ℕ). b ++ lastBlocks k (prevBy c k v a) x y r) j q in
+    let u : length b ≡ 36 + n = omega (arith, length-blockBytes (k .base) (stretchBy c k v p a) i, length-stretch c k v p a lv h) in
+    record {
+      written = next-take w b z at (36 + n) t u;
+      left = next-drop w b z at (36 + n) t u;
+      fits = next-le w b z at (36 + n) t u la;
+      piece = g;
+      pieces = omega (arith, block-pieces);
+    }
