@@ -53,7 +53,7 @@ use Rattle.outer_header.specs.Kdbx4Header.{
 }
 
 -- fewer than twelve bytes of anything
-header-short : (s : List ℕ) → length s < 12 → header s ≡ read.Refused CutShort
+pub header-short : (s : List ℕ) → length s < 12 → header s ≡ read.Refused CutShort
 unfolding header fileLimit
 header-short s h =
     let l : length s ≤ fileLimit = omega arith in
@@ -61,24 +61,24 @@ header-short s h =
 
 module _ (f : Fields) (s : List ℕ) (at : ℕ) (fresh : seen f 12 ≡ false) (here : at + 5 ≤ length s)
     (custom : getD s at 0 ≡ 12) where
-  custom-negative : le 4 s (at + 1) ≡ 0xFFFFFFFF → fieldHere f s at ≡ field.Refused WrongSize
+  pub custom-negative : le 4 s (at + 1) ≡ 0xFFFFFFFF → fieldHere f s at ≡ field.Refused WrongSize
   unfolding fieldHere fieldAt valueAt int32 listed
   custom-negative e = rw (custom, fresh, le-leb _ _ here, e)
 
   -- no file within the limit has a value so long
-  custom-long : le 4 s (at + 1) ≡ 0x7FFFFFFF → length s ≤ fileLimit → fieldHere f s at ≡ field.Refused CutShort
+  pub custom-long : le 4 s (at + 1) ≡ 0x7FFFFFFF → length s ≤ fileLimit → fieldHere f s at ≡ field.Refused CutShort
   unfolding fieldHere fieldAt valueAt int32 listed sizeRule fits fileLimit
   custom-long e h =
       let l : length s - (at + 5) < 0x7FFFFFFF = omega arith in
       rw (custom, fresh, le-leb _ _ here, e, lt-leb _ _ l)
 
 module _ (d : List ℕ) (seed : Place) (start : ℕ) where
-  rounds-most : le 8 d start ≡ 4_000_000
+  pub rounds-most : le 8 d start ≡ 4_000_000
       → roundsIn d seed (found.At 0x05 start 8) ≡ kdf.Asks (record { seed = seed; rounds = 4_000_000 })
   unfolding roundsIn roundsLimit
   rounds-most e = rw e
 
-  rounds-more : le 8 d start ≡ 4_000_001 → roundsIn d seed (found.At 0x05 start 8) ≡ kdf.Refused TooManyRounds
+  pub rounds-more : le 8 d start ≡ 4_000_001 → roundsIn d seed (found.At 0x05 start 8) ≡ kdf.Refused TooManyRounds
   unfolding roundsIn roundsLimit
   rounds-more e = rw e
 
@@ -92,7 +92,7 @@ chaChaHeader =
     ++ fieldBytes 11 (kdfBytes (replicate 32 0x33) 1)
     ++ fieldBytes 0 (0x0D ∷ 0x0A ∷ 0x0D ∷ 0x0A ∷ [])
 
-header-listed : header chaChaHeader
+pub header-listed : header chaChaHeader
     ≡ read.Header
     (record {
       minor = 1;

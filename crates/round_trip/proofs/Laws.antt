@@ -1,0 +1,7 @@
+-- Laws of written files.
+--
+-- In order:
+--   Start     the start accepts a written header, hash and tag
+--   Blocks    the whole opener walks over written blocks
+pub mod Start
+pub mod Blocks

@@ -1,0 +1,89 @@
+-- Document 01, "Numbers to meet": everything that is marked P, as one table with a field or two for each line.
+-- Assumes nothing.
+use mathlib.Core.Path.{_≡_}
+use mathlib.Core.Bool.{false}
+use mathlib.Core.List.{List, [], _∷_, _++_}
+use Prim.Native.Nat.{ℕ, _+_, _≤_, _<_}
+use lib.ListN.{length, getD, take, drop}
+use Rattle.words.specs.Endian.{le}
+use Rattle.refusals.specs.declared.Refusal.the-variants.{CutShort, WrongSize, TooManyRounds}
+use Rattle.refusals.specs.declared.Written.the-variants.{Wrote}
+use Rattle.refusals.specs.Limits.{fileLimit, writtenBlock}
+use Rattle.pkcs7.specs.Pkcs7.{padding}
+use Rattle.ciphers.specs.declared.Cipher.{Cipher}
+use Rattle.ciphers.specs.declared.Cipher.the-variants.{Aes256, ChaCha20}
+use Rattle.fields.specs.declared.Place.{Place}
+use Rattle.fields.specs.declared.Field.the-variants as field
+use Rattle.dictionary.specs.Kdf.{kdfBytes}
+use Rattle.dictionary.specs.declared.Found.the-variants as found
+use Rattle.kdf_dictionary.specs.KdfDictionary.{roundsIn}
+use Rattle.kdf_dictionary.specs.declared.Reading.the-variants as kdf
+use Rattle.outer_header.specs.Kdbx4Header.{seen, fieldHere, header}
+use Rattle.outer_header.specs.declared.walk.Fields.{Fields}
+use Rattle.outer_header.specs.declared.Reading.the-variants as read
+use Rattle.header_writer.specs.Written.{headerBytes}
+use Rattle.block_stream.specs.Blocks.{blockBytes}
+use Rattle.opening.specs.declared.Keys.{Keys}
+use Rattle.opening.specs.Decryption.{decryptionBy, handed}
+use Rattle.opening.specs.Agreement.{stepAnswers}
+use Rattle.opening.proofs.Worked.{Blocks5And27, ClosingBehind, ciphertext, writtens}
+use Rattle.writer.specs.Written.{Figures, encryptionBy, blocksOf, fileBytes}
+use Rattle.writer.specs.Stretches.{Sized}
+
+-- figures of the right sizes, without custom data
+pub record Plain (c : Cipher) (g : Figures) : Type 0 where
+  pub sizes : Sized c (g .seed) (g .nonce) (g .kdfSeed)
+  pub no-custom : g .custom ≡ []
+
+pub record WorkedNumbers : Type 0 where
+  -- "AES header without custom data: 207 bytes; ChaCha20: 203; KDF dictionary: 93"
+  pub header-aes : (minor : ℕ) (seed nonce kdfSeed : List ℕ) (rounds : ℕ) → length seed ≡ 32 → length kdfSeed ≡ 32
+      → length nonce ≡ 16 → length (headerBytes minor Aes256 seed nonce kdfSeed rounds []) ≡ 207
+  pub header-chacha : (minor : ℕ) (seed nonce kdfSeed : List ℕ) (rounds : ℕ) → length seed ≡ 32 → length kdfSeed ≡ 32
+      → length nonce ≡ 12 → length (headerBytes minor ChaCha20 seed nonce kdfSeed rounds []) ≡ 203
+  pub kdf-dictionary : (kdfSeed : List ℕ) (rounds : ℕ) → length kdfSeed ≡ 32 → length (kdfBytes kdfSeed rounds) ≡ 93
+  -- "Empty payload: AES file 359 bytes, ChaCha20 303. ChaCha20, 1 byte: 340"
+  pub empty-aes : (g : Figures) → Plain Aes256 g → (t : List ℕ) → length (fileBytes g Aes256 t []) ≡ 359
+  pub empty-chacha : (g : Figures) → Plain ChaCha20 g → (t : List ℕ) → length (fileBytes g ChaCha20 t []) ≡ 303
+  pub one-chacha : (g : Figures) → Plain ChaCha20 g → (t b : List ℕ) → length b ≡ 1
+      → length (fileBytes g ChaCha20 t b) ≡ 340
+  -- "AES payload 16,383: one data block; 16,384: two, file 16,779"
+  pub one-block-aes : (k : Keys) → length (k .nonce) ≡ 16 → (b : List ℕ) → length b ≡ 16_383
+      → blocksOf (k .base) (encryptionBy Aes256 k b)
+      ≡ blockBytes (k .base) 0 (encryptionBy Aes256 k b) ++ blockBytes (k .base) 1 []
+  pub two-blocks-aes : (k : Keys) → length (k .nonce) ≡ 16 → (b : List ℕ) → length b ≡ 16_384
+      → blocksOf (k .base) (encryptionBy Aes256 k b)
+      ≡ blockBytes (k .base) 0 (take writtenBlock (encryptionBy Aes256 k b))
+      ++ (blockBytes (k .base) 1 (drop writtenBlock (encryptionBy Aes256 k b)) ++ blockBytes (k .base) 2 [])
+  pub file-aes : (g : Figures) → Plain Aes256 g → (t b : List ℕ) → length b ≡ 16_384
+      → length (fileBytes g Aes256 t b) ≡ 16_779
+  -- "ChaCha20 16,384: one, file 16,723"
+  pub one-block-chacha : (k : Keys) (b : List ℕ) → length b ≡ 16_384
+      → blocksOf (k .base) (encryptionBy ChaCha20 k b)
+      ≡ blockBytes (k .base) 0 (encryptionBy ChaCha20 k b) ++ blockBytes (k .base) 1 []
+  pub file-chacha : (g : Figures) → Plain ChaCha20 g → (t b : List ℕ) → length b ≡ 16_384
+      → length (fileBytes g ChaCha20 t b) ≡ 16_723
+  -- "AES c = 16: 0 handed over; c = 17: 16"
+  pub handed-16 : handed Aes256 16 ≡ 0
+  pub handed-17 : handed Aes256 17 ≡ 16
+  -- "AES blocks of 5 and 27: 0 then 16; padding 1 adds 15, padding 16 adds 0"
+  pub steps-5-27 : (k : Keys) (f : List ℕ) (p : ℕ) → Blocks5And27 k f p → (n m : ℕ) → 16 ≤ m
+      → writtens (stepAnswers k f p (n ∷ m ∷ [])) ≡ Wrote 0 ∷ Wrote 16 ∷ []
+  pub padding-1 : (k : Keys) (f : List ℕ) (p : ℕ) → Blocks5And27 k f p → ClosingBehind k f p
+      → padding (decryptionBy Aes256 k (ciphertext f p)) ≡ 1 → (n m r : ℕ) → 16 ≤ m → 15 ≤ r
+      → writtens (stepAnswers k f p (n ∷ m ∷ r ∷ [])) ≡ Wrote 0 ∷ Wrote 16 ∷ Wrote 15 ∷ []
+  pub padding-16 : (k : Keys) (f : List ℕ) (p : ℕ) → Blocks5And27 k f p → ClosingBehind k f p
+      → padding (decryptionBy Aes256 k (ciphertext f p)) ≡ 16 → (n m r : ℕ) → 16 ≤ m
+      → writtens (stepAnswers k f p (n ∷ m ∷ r ∷ [])) ≡ Wrote 0 ∷ Wrote 16 ∷ Wrote 0 ∷ []
+  -- "Custom dictionary field of size FFFFFFFF: 5. Of 7FFFFFFF in a short file: 2"
+  pub custom-negative : (f : Fields) (s : List ℕ) (at : ℕ) → seen f 12 ≡ false → at + 5 ≤ length s → getD s at 0 ≡ 12
+      → le 4 s (at + 1) ≡ 0xFFFFFFFF → fieldHere f s at ≡ field.Refused WrongSize
+  pub custom-long : (f : Fields) (s : List ℕ) (at : ℕ) → seen f 12 ≡ false → at + 5 ≤ length s → getD s at 0 ≡ 12
+      → le 4 s (at + 1) ≡ 0x7FFFFFFF → length s ≤ fileLimit → fieldHere f s at ≡ field.Refused CutShort
+  -- "Rounds 4,000,000 pass, 4,000,001 give 11"
+  pub rounds-most : (d : List ℕ) (seed : Place) (start : ℕ) → le 8 d start ≡ 4_000_000
+      → roundsIn d seed (found.At 0x05 start 8) ≡ kdf.Asks (record { seed = seed; rounds = 4_000_000 })
+  pub rounds-more : (d : List ℕ) (seed : Place) (start : ℕ) → le 8 d start ≡ 4_000_001
+      → roundsIn d seed (found.At 0x05 start 8) ≡ kdf.Refused TooManyRounds
+  -- "Eleven bytes of anything: 2"
+  pub eleven : (s : List ℕ) → length s ≡ 11 → header s ≡ read.Refused CutShort
