@@ -1,0 +1,39 @@
+// Vaults that are written, and what the writer refuses, with ties for the order of its checks.
+//
+// A row is `name form figure number digits` (the crate `vectors`). The names: `written`, with the length and SHA-256 of
+// a file, or 0 and a refusal's number; `behind`, with the length and SHA-256 of the bytes behind the file, all where it
+// is refused, of an output that was EE; `file`, with a file's bytes, where the form begins with `file-`. The form says
+// what the case is. Standard input has a line for each: `FORM minor cipher master-seed nonce KDF-seed rounds custom T
+// payload room`. A payload that is a number has so many bytes by rule (vectors::pattern). The room is what is lent.
+// tools/vectors_writer.py writes stdin and stdout, by a writer of its own; tools/interop_writer.py has this program
+// write vaults for other programs to open.
+ghost use mathlib.Core.Path.{_≡_};
+ghost use lib.ListN.{length};
+use libc::STDIN_FILENO;
+
+mod writing;
+
+fn main() {
+    let mut space = vectors::million(0);
+    let n = io::read_full(STDIN_FILENO, &mut space);
+    let mut pattern = longest(0);
+    vectors::pattern(&mut pattern);
+    lines(&space[..n], &pattern);
+}
+
+// A byte, once more than the longest payload has.
+fn longest(b: u8) -> [u8; 4_194_305]
+    ensures { λ r. ⌜ 4194305 ≡ length r ⌝ }
+{
+    [b; 4_194_305]
+}
+
+// The rows of each line of a table.
+fn lines(s: &[u8], pattern: &[u8]) {
+    let mut at: usize = 0;
+    while at < s.len() {
+        let end = vectors::table::find(s, at, b'\n');
+        writing::line(&s[at..end], pattern);
+        at = end + 1;
+    }
+}

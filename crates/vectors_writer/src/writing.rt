@@ -1,0 +1,145 @@
+// The rows of a vault that is written.
+ghost use mathlib.Core.Path.{_≡_};
+ghost use Prim.Native.Nat.{_≤_};
+ghost use lib.ListN.{length};
+use refusals::Written;
+use vectors::table::bytes;
+use vectors::table::field;
+use vectors::table::number;
+
+// The rows of a line, whose payload is given or by rule.
+pub fn line(line: &[u8], pattern: &[u8]) {
+    let text = field(line, 9);
+    if vectors::table::is_given(text) {
+        let mut space = io::large_buffer();
+        let n = bytes(text, &mut space);
+        with_payload(line, vectors::first(&space, n));
+        return;
+    }
+    with_payload(line, vectors::first(pattern, number(text) as usize));
+}
+
+// The rows of a line and its payload.
+fn with_payload(line: &[u8], payload: &[u8]) {
+    let mut seed = [0u8; 64];
+    let mut kdf_seed = [0u8; 64];
+    let s = bytes(field(line, 3), &mut seed);
+    let k = bytes(field(line, 5), &mut kdf_seed);
+    with_seeds(
+        line,
+        payload,
+        vectors::first(&seed, s),
+        vectors::first(&kdf_seed, k),
+    );
+}
+
+// The rows of a line, its payload and seeds.
+fn with_seeds(line: &[u8], payload: &[u8], seed: &[u8], kdf_seed: &[u8]) {
+    let mut cipher = [0u8; 64];
+    let mut nonce = [0u8; 64];
+    let mut custom = [0u8; 256];
+    let c = bytes(field(line, 2), &mut cipher);
+    let n = bytes(field(line, 4), &mut nonce);
+    let d = bytes(field(line, 7), &mut custom);
+    write(
+        line,
+        payload,
+        seed,
+        kdf_seed,
+        vectors::first(&cipher, c),
+        vectors::first(&nonce, n),
+        vectors::first(&custom, d),
+    );
+}
+
+// The rows of a line and all its bytes.
+fn write(
+    line: &[u8],
+    payload: &[u8],
+    seed: &[u8],
+    kdf_seed: &[u8],
+    cipher: &[u8],
+    nonce: &[u8],
+    custom: &[u8],
+) {
+    let mut out = output(0xEE);
+    write_to(
+        line,
+        payload,
+        seed,
+        kdf_seed,
+        cipher,
+        nonce,
+        custom,
+        &mut out,
+    );
+}
+
+// The rows of a line, all its bytes and an output, of which the line's room is lent.
+fn write_to(
+    line: &[u8],
+    payload: &[u8],
+    seed: &[u8],
+    kdf_seed: &[u8],
+    cipher: &[u8],
+    nonce: &[u8],
+    custom: &[u8],
+    out: &mut [u8],
+) {
+    let minor = (number(field(line, 1)) % 0x1_0000) as u16;
+    let rounds = number(field(line, 6));
+    let t = vectors::table::array(field(line, 8));
+    let room = room_of(number(field(line, 10)) as usize, out.len());
+    let w = writer::write(
+        minor,
+        cipher,
+        seed,
+        nonce,
+        kdf_seed,
+        rounds,
+        custom,
+        t,
+        payload,
+        &mut out[..room],
+    );
+    show(field(line, 0), w, out);
+}
+
+// Room for any case's file.
+fn output(b: u8) -> [u8; 65_536]
+    ensures { λ r. ⌜ 65536 ≡ length r ⌝ }
+{
+    [b; 65_536]
+}
+
+// So many bytes, or as many as there are.
+fn room_of(n: usize, most: usize) -> usize
+    ensures { λ r. ⌜ r ≤ most ⌝ }
+{
+    if n < most { n } else { most }
+}
+
+// The rows of an answer and the whole output.
+fn show(name: &[u8], w: Written, out: &[u8]) {
+    match w {
+        Written::Refused(r) => {
+            vectors::row(b"written", name, 0, r.number(), b"");
+            hashed(b"behind", name, out);
+        }
+        Written::Wrote(n) => {
+            let file = vectors::first(out, n);
+            hashed(b"written", name, file);
+            hashed(b"behind", name, vectors::after(out, n));
+            if slices::same(vectors::first(name, 5), b"file-") {
+                vectors::row(b"file", name, n, 0, file);
+            }
+        }
+    }
+}
+
+// The length and hash of bytes.
+fn hashed(name: &[u8], form: &[u8], s: &[u8]) {
+    let d = sha256::hash(s);
+    let digest = d.digest;
+    vectors::row(name, form, s.len(), 0, &digest);
+}

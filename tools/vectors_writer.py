@@ -1,0 +1,340 @@
+#!/usr/bin/env python3
+"""Write what crates/vectors_writer reads and must print:   tools/vectors_writer.py
+
+The files come from a writer of its own, told here from document 01: header, hash, tag and blocks by Python's hashlib
+and hmac, AES and ChaCha20 by the Python package cryptography, which is OpenSSL. The numbers come from its checks, made
+in document 01's order, and each is compared with the number that its case is to give. The lengths that document 01
+gives are compared too.
+"""
+import hashlib
+import hmac
+import pathlib
+import sys
+
+from cryptography.hazmat.primitives import padding
+from cryptography.hazmat.primitives.ciphers import Cipher, algorithms, modes
+from messages import pattern
+from vaults import text_field
+
+LIMIT = 4_194_304
+BLOCK = 16_384
+OUTPUT = 65_536
+AES = bytes.fromhex("31C1F2E6BF714350BE5805216AFC5AFF")
+CHACHA20 = bytes.fromhex("D6038A2B8B6F4CB5A524339A31DBB59A")
+AES_KDF = bytes.fromhex("C9D9F39A628A4460BF740D08C18A4FEA")
+NONCE_SIZE = {AES: 16, CHACHA20: 12}
+# The sizes of a dictionary's types; None where any will do.
+TYPES = {0x04: 4, 0x05: 8, 0x08: 1, 0x0C: 4, 0x0D: 8, 0x18: None, 0x42: None}
+
+
+class Refused(Exception):
+    """Carries a refusal's number."""
+
+
+def le(n, size):
+    return n.to_bytes(size, "little")
+
+
+def sha256(*parts):
+    return hashlib.sha256(b"".join(parts)).digest()
+
+
+def sha512(*parts):
+    return hashlib.sha512(b"".join(parts)).digest()
+
+
+def item(type_, name, value, name_size=None, value_size=None):
+    name_size = len(name) if name_size is None else name_size
+    value_size = len(value) if value_size is None else value_size
+    sizes = (n.to_bytes(4, "little", signed=True) for n in (name_size, value_size))
+    return bytes([type_]) + next(sizes) + name + next(sizes) + value
+
+
+def dictionary(*items):
+    return b"\x00\x01" + b"".join(items) + b"\x00"
+
+
+def check_dictionary(s):
+    """Refuses a broken dictionary (10) or a repeated name (6), the first met from the front."""
+
+    def taken(at, n):
+        if n < 0 or at + n > len(s):
+            raise Refused(10)
+        return s[at : at + n], at + n
+
+    def sized(at):
+        size, at = taken(at, 4)
+        return taken(at, int.from_bytes(size, "little", signed=True))
+
+    version, at = taken(0, 2)
+    if version[1] != 1:
+        raise Refused(10)
+    names = set()
+    while True:
+        type_, at = taken(at, 1)
+        if type_ == b"\0":
+            break
+        name, at = sized(at)
+        value, at = sized(at)
+        if type_[0] not in TYPES or TYPES[type_[0]] not in (None, len(value)):
+            raise Refused(10)
+        if name in names:
+            raise Refused(6)
+        names.add(name)
+    if at != len(s):
+        raise Refused(10)
+
+
+def header_of(minor, cipher, seed, nonce, kdf_seed, rounds, custom):
+    def field(id_, value):
+        return bytes([id_]) + le(len(value), 4) + value
+
+    kdf = dictionary(item(0x42, b"$UUID", AES_KDF), item(0x05, b"R", le(rounds, 8)), item(0x42, b"S", kdf_seed))
+    header = le(0x9AA2D903, 4) + le(0xB54BFB67, 4) + le(minor, 2) + le(4, 2)
+    header += field(2, cipher) + field(3, bytes(4)) + field(4, seed) + field(7, nonce) + field(11, kdf)
+    if custom:
+        header += field(12, custom)
+    return header + field(0, b"\r\n\r\n")
+
+
+def encrypted(cipher, key, nonce, payload):
+    if cipher == AES:
+        padder = padding.PKCS7(128).padder()
+        encryptor = Cipher(algorithms.AES(key), modes.CBC(nonce)).encryptor()
+        return encryptor.update(padder.update(payload) + padder.finalize()) + encryptor.finalize()
+    # The package's nonce begins with the counter, which is 0.
+    return Cipher(algorithms.ChaCha20(key, bytes(4) + nonce), None).encryptor().update(payload)
+
+
+def write(minor, cipher, seed, nonce, kdf_seed, rounds, custom, t, payload, room):
+    if minor not in (0, 1):
+        raise Refused(4)
+    if cipher not in NONCE_SIZE:
+        raise Refused(9)
+    if (len(seed), len(nonce), len(kdf_seed)) != (32, NONCE_SIZE[cipher], 32):
+        raise Refused(5)
+    if rounds > 4_000_000:
+        raise Refused(11)
+    if custom:
+        check_dictionary(custom)
+    if len(payload) > LIMIT:
+        raise Refused(1)
+    base = sha512(seed, t, b"\1")
+
+    def tag(i, message):
+        return hmac.digest(sha512(le(i, 8), base), message, "sha256")
+
+    header = header_of(minor, cipher, seed, nonce, kdf_seed, rounds, custom)
+    text = encrypted(cipher, sha256(seed, t), nonce, payload)
+    parts = [header, sha256(header), tag(2**64 - 1, header)]
+    blocks = [text[at : at + BLOCK] for at in range(0, len(text), BLOCK)] + [b""]
+    for i, block in enumerate(blocks):
+        sized = le(len(block), 4) + block
+        parts += [tag(i, le(i, 8) + sized), sized]
+    file = b"".join(parts)
+    if len(file) > LIMIT:
+        raise Refused(1)
+    if len(file) > room:
+        raise Refused(17)
+    return file
+
+
+def line_of(name, minor, cipher, seed, nonce, kdf_seed, rounds, custom, t, payload, room):
+    """A line of the program's standard input. A payload that is a number has so many bytes by rule."""
+    parts = [name, minor, *map(text_field, (cipher, seed, nonce, kdf_seed)), rounds]
+    parts += [text_field(custom or None), text_field(t)]
+    parts += [payload if isinstance(payload, int) else text_field(payload), room]
+    return " ".join(map(str, parts))
+
+
+class Cases:
+    def __init__(self):
+        self.table, self.rows = [], []
+        self.longest = pattern(LIMIT + 1)
+
+    def row(self, name, form, figure, number, result=b""):
+        self.rows.append(f"{name} {form} {figure} {number} {result.hex()}")
+
+    def case(self, name, number, figures):
+        """A line and its rows; the number must be that of the case. Answers the file's length."""
+        self.table.append(line_of(name, **figures))
+        payload = figures["payload"]
+        if isinstance(payload, int):
+            payload = self.longest[:payload]
+        file, given = b"", 0
+        try:
+            file = write(**(figures | {"payload": payload}))
+            self.row("written", name, len(file), 0, sha256(file))
+        except Refused as r:
+            given = r.args[0]
+            self.row("written", name, 0, given)
+        assert given == number, (name, given)
+        behind = b"\xee" * (OUTPUT - len(file))
+        self.row("behind", name, len(behind), 0, sha256(behind))
+        if file and name.startswith("file-"):
+            self.row("file", name, len(file), 0, file)
+        return len(file)
+
+
+def counted(first, n):
+    return bytes((first + i) % 256 for i in range(n))
+
+
+ITEM = item(0x18, b"name", b"value")
+CUSTOM = dictionary(
+    ITEM,
+    item(0x04, b"u32", le(7, 4)),
+    item(0x05, b"u64", le(2**63, 8)),
+    item(0x08, b"bool", b"\1"),
+    item(0x0C, b"i32", b"\xff" * 4),
+    item(0x0D, b"i64", b"\xff" * 8),
+    item(0x42, b"", b""),
+)
+SOUND = {
+    "minor": 1,
+    "cipher": AES,
+    "seed": counted(0x10, 32),
+    "nonce": counted(0xA0, 16),
+    "kdf_seed": counted(0x50, 32),
+    "rounds": 6000,
+    "custom": b"",
+    "t": counted(0xE8, 32),
+    "payload": 100,
+    "room": OUTPUT,
+}
+SOUND_CHACHA20 = SOUND | {"cipher": CHACHA20, "nonce": counted(0xC0, 12)}
+BOTH = {"aes": SOUND, "chacha20": SOUND_CHACHA20}
+LENGTHS = (0, 1, 15, 16, 17, 16_383, 16_384, 16_385, 32_767, 32_768, 40_000)
+# Document 01, "Numbers to meet": the lengths of files without a custom dictionary.
+GIVEN = {
+    ("aes", 0): 359,
+    ("chacha20", 0): 303,
+    ("chacha20", 1): 340,
+    ("aes", 16_384): 16_779,
+    ("chacha20", 16_384): 16_723,
+}
+
+# Custom dictionaries by name, with the number that each is to give.
+DICTIONARIES = {
+    "least": (0, dictionary()),
+    "version-01ff": (0, b"\xff\x01\x00"),
+    "one-byte": (10, b"\x00"),
+    "no-end": (10, b"\x00\x01"),
+    "version-2": (10, b"\x00\x02\x00"),
+    "behind-end": (10, dictionary() + b"\0"),
+    "unknown-type": (10, dictionary(item(0x19, b"name", b""))),
+    "wrong-size": (10, dictionary(item(0x04, b"name", b"\0" * 5))),
+    "negative-name": (10, dictionary(item(0x18, b"", b"", name_size=-1))),
+    "negative-value": (10, dictionary(item(0x18, b"name", b"", value_size=-1))),
+    "value-cut": (10, dictionary(item(0x18, b"name", b"", value_size=2))),
+    "repeated": (6, dictionary(ITEM, item(0x42, b"name", b""))),
+    "repeated-then-broken": (6, dictionary(ITEM, ITEM, item(0x19, b"", b""))),
+    "broken-then-repeated": (10, dictionary(ITEM, item(0x19, b"", b""), ITEM)),
+}
+
+# What is wrong, by number in the writer's order. A tie takes one of each of two or more.
+WRONG = [
+    (4, {"minor": 2}),
+    (9, {"cipher": counted(0, 16)}),
+    (5, {"seed": counted(0, 31)}),
+    (11, {"rounds": 4_000_001}),
+    (10, {"custom": b"\x00\x02\x00"}),
+    (1, {"payload": LIMIT + 1}),
+    (17, {"room": 0}),
+]
+# Further cases that are refused.
+REFUSED = {
+    "minor-256": (4, {"minor": 256}),
+    "minor-65535": (4, {"minor": 65_535}),
+    "cipher-absent": (9, {"cipher": None}),
+    "cipher-of-15": (9, {"cipher": AES[:-1]}),
+    "cipher-of-17": (9, {"cipher": AES + b"\0"}),
+    "cipher-is-kdf": (9, {"cipher": AES_KDF}),
+    "cipher-last-byte": (9, {"cipher": AES[:-1] + b"\xfe"}),
+    "seed-absent": (5, {"seed": None}),
+    "seed-of-33": (5, {"seed": counted(0, 33)}),
+    "kdf-seed-absent": (5, {"kdf_seed": None}),
+    "kdf-seed-of-31": (5, {"kdf_seed": counted(0, 31)}),
+    "kdf-seed-of-33": (5, {"kdf_seed": counted(0, 33)}),
+    "nonce-absent": (5, {"nonce": None}),
+    "nonce-of-15": (5, {"nonce": counted(0, 15)}),
+    "nonce-of-17": (5, {"nonce": counted(0, 17)}),
+    "nonce-of-12": (5, {"nonce": counted(0, 12)}),
+    "chacha20-nonce-of-16": (5, {"cipher": CHACHA20}),
+    "chacha20-nonce-of-11": (5, {"cipher": CHACHA20, "nonce": counted(0, 11)}),
+    "rounds-2-to-32": (11, {"rounds": 2**32}),
+    "rounds-of-18-digits": (11, {"rounds": 10**18 - 1}),
+    "payload-longest": (1, {"payload": LIMIT}),
+    "repeated-no-room": (6, {"custom": DICTIONARIES["repeated"][1], "room": 0}),
+    "rounds-repeated": (11, {"custom": DICTIONARIES["repeated"][1], "rounds": 4_000_001}),
+    "nonce-rounds": (5, {"nonce": counted(0, 15), "rounds": 4_000_001}),
+    "kdf-seed-rounds": (5, {"kdf_seed": counted(0, 31), "rounds": 4_000_001}),
+    "cipher-nonce": (9, {"cipher": None, "nonce": counted(0, 15)}),
+}
+
+
+def without_nones(figures):
+    """The model's figures: an absent one has no bytes."""
+    return {name: b"" if value is None else value for name, value in figures.items()}
+
+
+def accepted(cases):
+    for cipher, figures in BOTH.items():
+        for n in LENGTHS:
+            for minor in (0, 1):
+                for custom in (b"", CUSTOM):
+                    form = f"{cipher}-{n}-4.{minor}" + ("-custom" if custom else "")
+                    length = cases.case(form, 0, figures | {"minor": minor, "custom": custom, "payload": n})
+                    assert custom or length == GIVEN.get((cipher, n), length), form
+        cases.case(f"{cipher}-given", 0, figures | {"payload": b"A payload that the line gives."})
+        cases.case(f"file-{cipher}", 0, figures | {"payload": 17, "custom": CUSTOM})
+        for rounds in (0, 1, 4_000_000):
+            cases.case(f"{cipher}-rounds-{rounds}", 0, figures | {"rounds": rounds})
+
+
+def refused(cases):
+    for name, (number, custom) in DICTIONARIES.items():
+        cases.case(f"dictionary-{name}", number, SOUND | {"custom": custom})
+    for name, (number, wrong) in REFUSED.items():
+        cases.case(name, number, without_nones(SOUND | wrong))
+    for cipher, figures in BOTH.items():
+        for n in (0, 17, 16_384):
+            for custom in (b"", CUSTOM):
+                form = f"{cipher}-{n}" + ("-custom" if custom else "")
+                figures = figures | {"payload": n, "custom": custom}
+                room = cases.case(f"{form}-whole-room", 0, figures)
+                cases.case(f"{form}-just-room", 0, figures | {"room": room})
+                cases.case(f"{form}-no-room", 17, figures | {"room": room - 1})
+    # The longest payloads whose files are within the limit: 257 blocks with the closing one, 36 bytes more each.
+    for cipher, figures in BOTH.items():
+        text = LIMIT - (271 if cipher == "aes" else 267) - 36 * 257
+        n = text // 16 * 16 - 1 if cipher == "aes" else text
+        cases.case(f"{cipher}-longest-file", 17, figures | {"payload": n})
+        cases.case(f"{cipher}-over-file", 1, figures | {"payload": n + 1, "room": 0})
+
+
+def ties(cases):
+    """Each number alone, each two of them, and all from each on: the first in the order is given."""
+    for i, (number, wrong) in enumerate(WRONG):
+        cases.case(f"only-{number}", number, SOUND | wrong)
+        together = dict(SOUND)
+        for later, worse in reversed(WRONG[i + 1 :]):
+            cases.case(f"tie-{number}-{later}", number, SOUND | worse | wrong)
+            together |= worse
+        cases.case(f"all-from-{number}", number, together | wrong)
+
+
+def main():
+    crate = pathlib.Path(__file__).parent.parent / "crates" / "vectors_writer"
+    cases = Cases()
+    accepted(cases)
+    refused(cases)
+    ties(cases)
+    (crate / "stdin").write_text("".join(f"{line}\n" for line in cases.table))
+    (crate / "stdout").write_text("".join(f"{line}\n" for line in cases.rows))
+
+
+if __name__ == "__main__":
+    if len(sys.argv) != 1:
+        sys.exit(__doc__)
+    main()
