@@ -12,3 +12,8 @@ uint8_t kdbx4_aes_kdf(const uint8_t composite[32], const uint8_t seed[32], uint6
 void kdbx4_aes256_cbc_encrypt(const uint8_t key[32], const uint8_t iv[16], uint8_t *out, size_t n);
 void kdbx4_aes256_cbc_decrypt(const uint8_t key[32], const uint8_t iv[16], uint8_t *out, size_t n);
 void kdbx4_chacha20(const uint8_t key[32], const uint8_t nonce[12], uint64_t at, uint8_t *out, size_t n);
+
+// A vault under the transformed key T. Whole: the payload over the front of `out`, and its length in `count`; a refusal leaves
+// both. By steps, one block after the other: what was handed over before a refusal stays in `out`.
+uint8_t kdbx4_open(const uint8_t *file, size_t n, const uint8_t t[32], uint8_t *out, size_t room, size_t *count);
+uint8_t kdbx4_open_steps(const uint8_t *file, size_t n, const uint8_t t[32], uint8_t *out, size_t room);

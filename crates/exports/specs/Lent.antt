@@ -1,10 +1,12 @@
--- What an exported function leaves in the array that it is lent. Document 01, "Refusal numbers": "A refusal … changes no lent
+-- What an exported function leaves in the memory that it is lent. Document 01, "Refusal numbers": "A refusal … changes no lent
 -- byte".
 -- Assumes nothing.
 use mathlib.Core.List.{List}
 use Prim.Native.Nat.{ℕ}
 use Rattle.refusals.specs.declared.Outcome.{Outcome}
 use Rattle.refusals.specs.declared.Outcome.the-variants.{Accepted, Refused}
+use Rattle.refusals.specs.declared.Written.{Written}
+use Rattle.refusals.specs.declared.Written.the-variants as written
 use Rattle.sha256.specs.State as sha256State
 use Rattle.sha512.specs.State as sha512State
 use Rattle.hmac.specs.State as hmacState
@@ -27,3 +29,8 @@ hmacSha256 k m had = resultOr (hmacState.tagged k m .outcome) (hmacState.tagged 
 abbrev pub aesKdf : List ℕ → List ℕ → ℕ → List ℕ → List ℕ
 aesKdf composite seed rounds had =
     resultOr (kdf.start composite seed rounds .outcome) (kdf.transformedKey composite seed rounds) had
+
+-- the number of bytes written where the operation accepts, and what stood there where it refuses
+abbrev pub countOr : Written → ℕ → ℕ
+countOr (written.Wrote n) had = n
+countOr (written.Refused r) had = had

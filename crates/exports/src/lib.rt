@@ -1,8 +1,11 @@
 // The static library for C and Rust: `rt staticlib exports` writes libexports.a.
 //
-// In C a slice is a pointer and a length, and an array a pointer. A function that can refuse answers document 01's number: 0 is
-// success, and a refusal changes no lent byte. The contracts cite the operations' own definitions and specs/Lent.
+// In C a slice is a pointer and a length, and an array or a number that is lent a pointer. A function that can refuse answers
+// document 01's number: 0 is success, and a refusal changes no lent byte. Many steps in one call, `kdbx4_open_steps`, differ: the
+// steps before a refusal have handed over their bytes. The contracts cite the operations' own definitions, specs/Lent and
+// specs/Stepping.
 ghost use mathlib.Core.Path.{_≡_};
+ghost use lib.ListN.{length};
 ghost use Rattle.refusals.specs.Numbers as numbers;
 ghost use Rattle.sha256.specs.State as sha256;
 ghost use Rattle.sha512.specs.State as sha512;
@@ -13,11 +16,17 @@ ghost use Rattle.fips197.specs.Fips197 as fips197;
 ghost use Rattle.cbc.specs.Sp80038a as sp80038a;
 ghost use Rattle.slices.specs.Over.{over};
 ghost use Rattle.aes_kdf.specs.AesKdf as kdf;
+ghost use Rattle.opening.specs.Whole as whole;
+ghost use Rattle.vault.specs.Vault as vault;
 ghost use Rattle.exports.specs.Lent as lent;
+ghost use Rattle.exports.specs.Stepping as stepping;
 use aes::RoundKeys;
 use aes_kdf::Transformation;
 use chacha20::ChaCha20;
+use opening::Opener;
+use opening::Phase;
 use refusals::Outcome;
+use refusals::Written;
 
 // SHA-256 (FIPS 180-4) of `m`.
 #[no_mangle]
@@ -121,4 +130,66 @@ pub extern "C" fn kdbx4_aes_kdf(
         return 0;
     }
     outcome.number()
+}
+
+// Opens a vault whole under the transformed key T: the payload over the front of `out`, and its length in `count`.
+#[no_mangle]
+pub extern "C" fn kdbx4_open(file: &[u8], t: &[u8; 32], out: &mut [u8], count: &mut usize) -> u8
+    ensures { λ r. ⌜ r ≡ numbers.ofWritten (whole.writtenOf (vault.openedIn (now (t .entry)) (now (file .entry)) (length (now (out .entry))))) ⌝ }
+    ensures { λ _. ⌜ now (out .exit) ≡ over (whole.shownOf (vault.openedIn (now (t .entry)) (now (file .entry)) (length (now (out .entry))))) (now (out .entry)) ⌝ }
+    ensures { λ _. ⌜ now (count .exit) ≡ lent.countOr (whole.writtenOf (vault.openedIn (now (t .entry)) (now (file .entry)) (length (now (out .entry))))) (now (count .entry)) ⌝ }
+{
+    let key = *t;
+    let answer = vault::open(file, key, out);
+    match answer {
+        Written::Wrote(n) => {
+            *count = n;
+            return 0;
+        }
+        Written::Refused(r) => return r.number(),
+    }
+}
+
+// Steps one after the other from a state, each lent the part of `out` behind what the others wrote.
+fn run_steps(first: Opener, f: &[u8], out: &mut [u8]) -> u8
+    ensures { λ r. ⌜ r ≡ stepping.stepping (length (now (f .entry))) (now (f .entry)) first (length (now (out .entry))) .number ⌝ }
+    ensures { λ _. ⌜ now (out .exit) ≡ over (stepping.stepping (length (now (f .entry))) (now (f .entry)) first (length (now (out .entry))) .bytes) (now (out .entry)) ⌝ }
+{
+    let mut o = first;
+    let mut at: usize = 0;
+    let mut left = f.len();
+    while left > 0 {
+        let s = opener::step(o, f, &mut out[at..]);
+        let answer = s.answer;
+        let next = s.next;
+        let phase = next.phase;
+        match answer {
+            Written::Refused(r) => return r.number(),
+            Written::Wrote(n) => {
+                if let Phase::Ended = phase {
+                    return 0;
+                }
+                at += n;
+                o = next;
+                left -= 1;
+            }
+        }
+    }
+    2
+}
+
+// Opens a vault block by block in one call: the start, then the steps. What a step handed over stays where a later one refuses.
+#[no_mangle]
+pub extern "C" fn kdbx4_open_steps(file: &[u8], t: &[u8; 32], out: &mut [u8]) -> u8
+    ensures { λ r. ⌜ r ≡ stepping.ranFrom (now (t .entry)) (now (file .entry)) (length (now (out .entry))) .number ⌝ }
+    ensures { λ _. ⌜ now (out .exit) ≡ over (stepping.ranFrom (now (t .entry)) (now (file .entry)) (length (now (out .entry))) .bytes) (now (out .entry)) ⌝ }
+{
+    let key = *t;
+    let s = vault::start(file, key);
+    let outcome = s.outcome;
+    let first = s.next;
+    match outcome {
+        Outcome::Refused(r) => return r.number(),
+        Outcome::Accepted => return run_steps(first, file, out),
+    }
 }

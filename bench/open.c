@@ -1,0 +1,280 @@
+// Opening a vault, whole and block by block, against the same work over mbedTLS: the header's hash and tag, each
+// block's tag, and the decryption into the output. The peer reads no header: it is told how long that is, and which
+// cipher and nonce it names. One peer stands beside both of ours. Its AES is aes.c without AES-NI, as in aes.c here.
+// The vaults are made here too, with mbedTLS.
+#include "bench.h"
+
+#include <mbedtls/aes.h>
+#include <mbedtls/chacha20.h>
+#include <mbedtls/md.h>
+#include <mbedtls/sha256.h>
+#include <mbedtls/sha512.h>
+
+#define FILE_LIMIT 4194304
+#define HEADER_NUMBER UINT64_MAX
+
+extern __typeof__(mbedtls_aes_setkey_enc) full_mbedtls_aes_setkey_enc;
+extern __typeof__(mbedtls_aes_setkey_dec) full_mbedtls_aes_setkey_dec;
+extern __typeof__(mbedtls_aes_crypt_cbc) full_mbedtls_aes_crypt_cbc;
+
+enum cipher { AES, CHACHA20 };
+
+// The vault that the rows open, what both sides write, and ciphertext on its way into blocks.
+static uint8_t file[FILE_LIMIT], opened[FILE_LIMIT], peer_opened[FILE_LIMIT], text[FILE_LIMIT + 16];
+static struct {
+    enum cipher cipher;
+    size_t block, payload, header, length;
+} made;
+
+static const uint8_t *const transformed = key; // T, and behind it the master seed
+#define SEED (key + 32)
+#define NONCE (message + 500)
+
+static void put_le(uint8_t *to, uint64_t x, size_t n) {
+    for (size_t i = 0; i < n; i++) to[i] = x >> 8 * i;
+}
+
+static uint32_t le32(const uint8_t *from) {
+    return from[0] | (uint32_t)from[1] << 8 | (uint32_t)from[2] << 16 | (uint32_t)from[3] << 24;
+}
+
+static void cipher_key(uint8_t out[32]) {
+    uint8_t both[64];
+    memcpy(both, SEED, 32), memcpy(both + 32, transformed, 32);
+    mbedtls_sha256_ret(both, 64, out, 0);
+}
+
+static void tag_base(uint8_t out[64]) {
+    uint8_t all[65];
+    memcpy(all, SEED, 32), memcpy(all + 32, transformed, 32), all[64] = 1;
+    mbedtls_sha512_ret(all, 65, out, 0);
+}
+
+// The tag of a header (no number in it) or of a block's number, size and data, under the number's own key.
+static void tag_of(mbedtls_md_context_t *c, const uint8_t base[64], uint64_t number, const uint8_t *m, size_t n,
+                   uint8_t out[32]) {
+    uint8_t all[72], k[64];
+    put_le(all, number, 8), memcpy(all + 8, base, 64);
+    mbedtls_sha512_ret(all, 72, k, 0);
+    mbedtls_md_hmac_starts(c, k, 64);
+    if (number != HEADER_NUMBER) mbedtls_md_hmac_update(c, all, 8);
+    mbedtls_md_hmac_update(c, m, n);
+    mbedtls_md_hmac_finish(c, out);
+}
+
+static void md_start(mbedtls_md_context_t *c) {
+    mbedtls_md_init(c);
+    mbedtls_md_setup(c, mbedtls_md_info_from_type(MBEDTLS_MD_SHA256), 1);
+}
+
+static uint8_t *put_field(uint8_t *at, uint8_t id, const void *value, size_t n) {
+    *at = id, put_le(at + 1, n, 4), memcpy(at + 5, value, n);
+    return at + 5 + n;
+}
+
+static uint8_t *put_item(uint8_t *at, uint8_t type, const char *name, const void *value, size_t n) {
+    size_t length = strlen(name);
+    *at = type, put_le(at + 1, length, 4), memcpy(at + 5, name, length);
+    put_le(at + 5 + length, n, 4), memcpy(at + 9 + length, value, n);
+    return at + 9 + length + n;
+}
+
+static size_t put_header(enum cipher cipher) {
+    static const char ids[2][17] = {"\x31\xC1\xF2\xE6\xBF\x71\x43\x50\xBE\x58\x05\x21\x6A\xFC\x5A\xFF",
+                                    "\xD6\x03\x8A\x2B\x8B\x6F\x4C\xB5\xA5\x24\x33\x9A\x31\xDB\xB5\x9A"};
+    uint8_t kdf[128] = {0, 1}, rounds[8] = {1}, *end = kdf + 2;
+    end = put_item(end, 0x42, "$UUID", "\xC9\xD9\xF3\x9A\x62\x8A\x44\x60\xBF\x74\x0D\x08\xC1\x8A\x4F\xEA", 16);
+    end = put_item(end, 0x05, "R", rounds, 8);
+    end = put_item(end, 0x42, "S", message, 32);
+    *end++ = 0;
+    uint8_t *at = file;
+    put_le(at, 0x9AA2D903, 4), put_le(at + 4, 0xB54BFB67, 4), put_le(at + 8, 0x00040001, 4);
+    at = put_field(at + 12, 2, ids[cipher], 16);
+    at = put_field(at, 3, "\0\0\0\0", 4);
+    at = put_field(at, 4, SEED, 32);
+    at = put_field(at, 7, NONCE, cipher == AES ? 16 : 12);
+    at = put_field(at, 11, kdf, end - kdf);
+    at = put_field(at, 0, "\r\n\r\n", 4);
+    return at - file;
+}
+
+// The ciphertext of the message's first n bytes.
+static size_t encrypt(enum cipher cipher, size_t n) {
+    uint8_t k[32], iv[16];
+    cipher_key(k);
+    if (cipher == CHACHA20) return mbedtls_chacha20_crypt(k, NONCE, 0, n, message, text), n;
+    size_t all = n / 16 * 16 + 16;
+    mbedtls_aes_context c;
+    memcpy(text, message, n), memset(text + n, all - n, all - n), memcpy(iv, NONCE, 16);
+    full_mbedtls_aes_setkey_enc(&c, k, 256);
+    full_mbedtls_aes_crypt_cbc(&c, MBEDTLS_AES_ENCRYPT, all, iv, text, text);
+    return all;
+}
+
+// Makes the vault of the message's first `payload` bytes in blocks of `block` bytes, unless it is there.
+static void make(enum cipher cipher, size_t block, size_t payload) {
+    if (made.length && made.cipher == cipher && made.block == block && made.payload == payload) return;
+    uint8_t base[64];
+    mbedtls_md_context_t c;
+    md_start(&c), tag_base(base);
+    size_t header = put_header(cipher), all = encrypt(cipher, payload), at = header + 64, taken = 0;
+    mbedtls_sha256_ret(file, header, file + header, 0);
+    tag_of(&c, base, HEADER_NUMBER, file, header, file + header + 32);
+    for (uint64_t number = 0, last = 0; !last; number++) {
+        size_t n = all - taken < block ? all - taken : block;
+        put_le(file + at + 32, n, 4), memcpy(file + at + 36, text + taken, n);
+        tag_of(&c, base, number, file + at + 32, 4 + n, file + at);
+        at += 36 + n, taken += n, last = n == 0;
+    }
+    mbedtls_md_free(&c);
+    made.cipher = cipher, made.block = block, made.payload = payload, made.header = header, made.length = at;
+}
+
+// What a caller of mbedTLS writes: the payload's length, or -1. A block is decrypted when its tag holds; of AES the
+// last piece waits, as ours does, until the closing block says that it is the last.
+static long peer_open(void) {
+    uint8_t k[32], base[64], iv[16], tag[32];
+    mbedtls_md_context_t c;
+    mbedtls_aes_context aes;
+    mbedtls_chacha20_context stream;
+    size_t at = made.header, taken = 0, done = 0, n;
+    md_start(&c), cipher_key(k), tag_base(base), memcpy(iv, NONCE, 16);
+    if (made.length < at + 64) return -1;
+    mbedtls_sha256_ret(file, at, tag, 0);
+    if (memcmp(tag, file + at, 32) != 0) return -1;
+    tag_of(&c, base, HEADER_NUMBER, file, at, tag);
+    if (memcmp(tag, file + at + 32, 32) != 0) return -1;
+    if (made.cipher == AES)
+        full_mbedtls_aes_setkey_dec(&aes, k, 256);
+    else
+        mbedtls_chacha20_init(&stream), mbedtls_chacha20_setkey(&stream, k), mbedtls_chacha20_starts(&stream, NONCE, 0);
+    at += 64;
+    for (uint64_t number = 0;; number++) {
+        if (made.length - at < 36) return -1;
+        n = le32(file + at + 32);
+        if (made.length - at - 36 < n) return -1;
+        tag_of(&c, base, number, file + at + 32, 4 + n, tag);
+        if (memcmp(tag, file + at, 32) != 0) return -1;
+        if (n == 0) break;
+        if (sizeof peer_opened - taken < n) return -1;
+        if (made.cipher == CHACHA20) {
+            mbedtls_chacha20_update(&stream, n, file + at + 36, peer_opened + taken);
+        } else {
+            memcpy(peer_opened + taken, file + at + 36, n);
+            size_t due = (taken + n - 1) / 16 * 16 - done;
+            full_mbedtls_aes_crypt_cbc(&aes, MBEDTLS_AES_DECRYPT, due, iv, peer_opened + done, peer_opened + done);
+            done += due;
+        }
+        at += 36 + n, taken += n;
+    }
+    mbedtls_md_free(&c);
+    if (at + 36 != made.length) return -1;
+    if (made.cipher == CHACHA20) return mbedtls_chacha20_free(&stream), (long)taken;
+    if (taken == 0 || taken % 16 != 0) return -1;
+    full_mbedtls_aes_crypt_cbc(&aes, MBEDTLS_AES_DECRYPT, 16, iv, peer_opened + done, peer_opened + done);
+    uint8_t padding = peer_opened[taken - 1];
+    if (padding < 1 || padding > 16) return -1;
+    for (size_t i = taken - padding; i < taken; i++)
+        if (peer_opened[i] != padding) return -1;
+    return taken - padding;
+}
+
+static int wrong(const char *what) {
+    const char *form = "bench: %s, cipher %d, payload %zu in blocks of %zu\n";
+    fprintf(stderr, form, what, made.cipher, made.payload, made.block);
+    return 0;
+}
+
+static int check_vault(enum cipher cipher, size_t block, size_t payload) {
+    size_t count = 77;
+    make(cipher, block, payload);
+    memset(opened, 0xaa, payload + 1);
+    if (kdbx4_open(file, made.length, transformed, opened, payload, &count) != 0) return wrong("refused whole");
+    if (count != payload) return wrong("counted");
+    if (memcmp(opened, message, payload) != 0 || opened[payload] != 0xaa) return wrong("opened whole");
+    memset(opened, 0xaa, payload + 1);
+    if (kdbx4_open_steps(file, made.length, transformed, opened, payload) != 0) return wrong("refused by steps");
+    if (memcmp(opened, message, payload) != 0 || opened[payload] != 0xaa) return wrong("opened by steps");
+    if (peer_open() != (long)payload || memcmp(peer_opened, message, payload) != 0) return wrong("the peer's");
+    return 1;
+}
+
+// Byte `at` of the vault changed: the whole opener answers the number, and leaves the output and the count.
+static int check_refusal(size_t at, uint8_t expected) {
+    size_t count = 77;
+    file[at] ^= 1;
+    untouched();
+    uint8_t whole = kdbx4_open(file, made.length, transformed, ours, sizeof ours, &count);
+    int kept = refused("a changed vault", whole, expected) && count == 77;
+    uint8_t steps = kdbx4_open_steps(file, made.length, transformed, opened, sizeof opened);
+    int closed = peer_open() == -1;
+    file[at] ^= 1;
+    return kept && closed && steps == expected ? 1 : wrong("a changed byte");
+}
+
+static int check(void) {
+    static const size_t blocks[] = {1, 16, 17, 1000, 16384, 1 << 20};
+    for (enum cipher cipher = AES; cipher <= CHACHA20; cipher++) {
+        for (size_t b = 0; b < sizeof blocks / sizeof *blocks; b++)
+            for (size_t n = 0; n <= 3000; n = n * 5 / 4 + 1)
+                if (!check_vault(cipher, blocks[b], n)) return 0;
+        if (!check_vault(cipher, 16384, 100000) || !check_vault(cipher, 1 << 20, 3499880)) return 0;
+        if (!check_vault(cipher, 1000, 5000)) return 0;
+        if (!check_refusal(0, 3) || !check_refusal(made.header, 12) || !check_refusal(made.header + 32, 13)) return 0;
+        if (!check_refusal(made.header + 64, 14) || !check_refusal(made.length - 2000, 14)) return 0;
+    }
+    return 1;
+}
+
+#define OPENS(name, cipher, block)                                                                            \
+    static void whole_##name(size_t n) {                                                                      \
+        size_t count;                                                                                         \
+        make(cipher, block, n), kdbx4_open(file, made.length, transformed, opened, n, &count);                \
+    }                                                                                                         \
+    static void steps_##name(size_t n) {                                                                      \
+        make(cipher, block, n), kdbx4_open_steps(file, made.length, transformed, opened, n);                  \
+    }                                                                                                         \
+    static void peer_##name(size_t n) { make(cipher, block, n), peer_open(); }
+
+OPENS(aes_1MiB, AES, 1 << 20)
+OPENS(aes_16KiB, AES, 16384)
+OPENS(aes_1000B, AES, 1000)
+OPENS(aes_16B, AES, 16)
+OPENS(chacha20_1MiB, CHACHA20, 1 << 20)
+OPENS(chacha20_16KiB, CHACHA20, 16384)
+OPENS(chacha20_1000B, CHACHA20, 1000)
+OPENS(chacha20_16B, CHACHA20, 16)
+
+// The payload of a file of about so many bytes.
+#define IN(size, block) ((size_t)(size) * (block) / ((block) + 36))
+#define ROW(name, goal, payload, ours, peer) {name, goal, "byte", payload, payload, ours, peer}
+#define WHOLE 3500000
+#define HALF 1750000
+
+static const struct row rows[] = {
+    ROW("open-aes-1MiB", "1.10", IN(WHOLE, 1 << 20), whole_aes_1MiB, peer_aes_1MiB),
+    ROW("open-aes-16KiB", "1.10", IN(WHOLE, 16384), whole_aes_16KiB, peer_aes_16KiB),
+    ROW("open-aes-16KiB-half", "1.10", IN(HALF, 16384), whole_aes_16KiB, peer_aes_16KiB),
+    ROW("open-aes-1000B", "-", IN(WHOLE, 1000), whole_aes_1000B, peer_aes_1000B),
+    ROW("open-aes-16B", "-", IN(WHOLE, 16), whole_aes_16B, peer_aes_16B),
+    ROW("open-aes-16B-half", "-", IN(HALF, 16), whole_aes_16B, peer_aes_16B),
+    ROW("open-aes-steps-1MiB", "1.10", IN(WHOLE, 1 << 20), steps_aes_1MiB, peer_aes_1MiB),
+    ROW("open-aes-steps-16KiB", "1.10", IN(WHOLE, 16384), steps_aes_16KiB, peer_aes_16KiB),
+    ROW("open-aes-steps-16KiB-half", "1.10", IN(HALF, 16384), steps_aes_16KiB, peer_aes_16KiB),
+    ROW("open-aes-steps-1000B", "-", IN(WHOLE, 1000), steps_aes_1000B, peer_aes_1000B),
+    ROW("open-aes-steps-16B", "-", IN(WHOLE, 16), steps_aes_16B, peer_aes_16B),
+    ROW("open-aes-steps-16B-half", "-", IN(HALF, 16), steps_aes_16B, peer_aes_16B),
+    ROW("open-chacha20-1MiB", "1.10", IN(WHOLE, 1 << 20), whole_chacha20_1MiB, peer_chacha20_1MiB),
+    ROW("open-chacha20-16KiB", "1.10", IN(WHOLE, 16384), whole_chacha20_16KiB, peer_chacha20_16KiB),
+    ROW("open-chacha20-1000B", "-", IN(WHOLE, 1000), whole_chacha20_1000B, peer_chacha20_1000B),
+    ROW("open-chacha20-16B", "-", IN(WHOLE, 16), whole_chacha20_16B, peer_chacha20_16B),
+    ROW("open-chacha20-steps-1MiB", "1.10", IN(WHOLE, 1 << 20), steps_chacha20_1MiB, peer_chacha20_1MiB),
+    ROW("open-chacha20-steps-16KiB", "1.10", IN(WHOLE, 16384), steps_chacha20_16KiB, peer_chacha20_16KiB),
+    ROW("open-chacha20-steps-1000B", "-", IN(WHOLE, 1000), steps_chacha20_1000B, peer_chacha20_1000B),
+    ROW("open-chacha20-steps-16B", "-", IN(WHOLE, 16), steps_chacha20_16B, peer_chacha20_16B),
+    {0},
+};
+
+static const struct state states[] = {{0}};
+
+const struct family opening = {rows, states, check};
