@@ -17,3 +17,10 @@ void kdbx4_chacha20(const uint8_t key[32], const uint8_t nonce[12], uint64_t at,
 // both. By steps, one block after the other: what was handed over before a refusal stays in `out`.
 uint8_t kdbx4_open(const uint8_t *file, size_t n, const uint8_t t[32], uint8_t *out, size_t room, size_t *count);
 uint8_t kdbx4_open_steps(const uint8_t *file, size_t n, const uint8_t t[32], uint8_t *out, size_t room);
+
+// The vault of a minor version, cipher's identifier, master seed, nonce, KDF seed, rounds, custom dictionary (no bytes
+// where it is absent), T and payload: over the front of `out`, and its length in `count`. A refusal leaves both.
+uint8_t kdbx4_write(uint16_t minor, const uint8_t *cipher, size_t c, const uint8_t *seed, size_t s,
+                    const uint8_t *nonce, size_t i, const uint8_t *kdf_seed, size_t k, uint64_t rounds,
+                    const uint8_t *custom, size_t d, const uint8_t t[32], const uint8_t *payload, size_t n,
+                    uint8_t *out, size_t room, size_t *count);

@@ -18,6 +18,7 @@ ghost use Rattle.slices.specs.Over.{over};
 ghost use Rattle.aes_kdf.specs.AesKdf as kdf;
 ghost use Rattle.opening.specs.Whole as whole;
 ghost use Rattle.vault.specs.Vault as vault;
+ghost use Rattle.writer.specs.Written as kdbx4;
 ghost use Rattle.exports.specs.Lent as lent;
 ghost use Rattle.exports.specs.Stepping as stepping;
 use aes::RoundKeys;
@@ -141,6 +142,47 @@ pub extern "C" fn kdbx4_open(file: &[u8], t: &[u8; 32], out: &mut [u8], count: &
 {
     let key = *t;
     let answer = vault::open(file, key, out);
+    match answer {
+        Written::Wrote(n) => {
+            *count = n;
+            return 0;
+        }
+        Written::Refused(r) => return r.number(),
+    }
+}
+
+// Writes a vault under the transformed key T: the file over the front of `out`, and its length in `count`.
+#[no_mangle]
+pub extern "C" fn kdbx4_write(
+    minor: u16,
+    cipher: &[u8],
+    seed: &[u8],
+    nonce: &[u8],
+    kdf_seed: &[u8],
+    rounds: u64,
+    custom: &[u8],
+    t: &[u8; 32],
+    payload: &[u8],
+    out: &mut [u8],
+    count: &mut usize,
+) -> u8
+    ensures { λ r. ⌜ r ≡ numbers.ofWritten (kdbx4.writing (kdbx4.figures minor (now (cipher .entry)) (now (seed .entry)) (now (nonce .entry)) (now («kdf_seed» .entry)) rounds (now (custom .entry))) (now (t .entry)) (now (payload .entry)) (length (now (out .entry)))) ⌝ }
+    ensures { λ _. ⌜ now (out .exit) ≡ over (kdbx4.shown (kdbx4.figures minor (now (cipher .entry)) (now (seed .entry)) (now (nonce .entry)) (now («kdf_seed» .entry)) rounds (now (custom .entry))) (now (t .entry)) (now (payload .entry)) (length (now (out .entry)))) (now (out .entry)) ⌝ }
+    ensures { λ _. ⌜ now (count .exit) ≡ lent.countOr (kdbx4.writing (kdbx4.figures minor (now (cipher .entry)) (now (seed .entry)) (now (nonce .entry)) (now («kdf_seed» .entry)) rounds (now (custom .entry))) (now (t .entry)) (now (payload .entry)) (length (now (out .entry)))) (now (count .entry)) ⌝ }
+{
+    let key = *t;
+    let answer = writer::write(
+        minor,
+        cipher,
+        seed,
+        nonce,
+        kdf_seed,
+        rounds,
+        custom,
+        key,
+        payload,
+        out,
+    );
     match answer {
         Written::Wrote(n) => {
             *count = n;
