@@ -25,30 +25,14 @@ import sys
 import tempfile
 import xml.etree.ElementTree as ElementTree
 
+from payloads import payload_of
 from vaults import vaults
 from vectors_writer import AES, AES_KDF, CHACHA20, NONCE_SIZE, line_of, sha256
-
-from cryptography.hazmat.primitives import padding
-from cryptography.hazmat.primitives.ciphers import Cipher, algorithms, modes
 
 PROGRAM = pathlib.Path(__file__).parent.parent / "target" / "bin" / "vectors_writer"
 # The program reads at most a million bytes: one vault at a time.
 INPUT = 1_000_000
 OUTPUT = 65_536
-
-
-def payload_of(vault):
-    """The payload of a vault, decrypted by its transformed key."""
-    data, at = b"", len(vault.header) + 64
-    while size := int.from_bytes(vault.file[at + 32 : at + 36], "little"):
-        data += vault.file[at + 36 : at + 36 + size]
-        at += 36 + size
-    key, nonce = sha256(vault.master_seed, vault.t), vault.fields[7]
-    if vault.fields[2] == AES:
-        decryptor = Cipher(algorithms.AES(key), modes.CBC(nonce)).decryptor()
-        unpadder = padding.PKCS7(128).unpadder()
-        return unpadder.update(decryptor.update(data) + decryptor.finalize()) + unpadder.finalize()
-    return Cipher(algorithms.ChaCha20(key, bytes(4) + nonce), None).decryptor().update(data)
 
 
 def written(lines):

@@ -2,123 +2,32 @@
 """Write what crates/vectors_header reads and must print, and what crates/list reads:   tools/vectors_header.py FIXTURES
 
 FIXTURES is the folder of vaults that other programs wrote, with its manifest.json: who does not have it cannot run this
-script, and needs only the files that it writes. Every expected listing is computed here, by a reader of outer headers
-of its own, which follows the requirements' page and shares no code with the library. The refusal's number of each
-damaged header is also told beside the case, by hand, and compared with what the reader says, but for those of
+script, and needs only the files that it writes. Every expected listing is computed by a model of outer headers
+(header_model.py), which follows the requirements' page and shares no code with the library. The refusal's number of
+each damaged header is also told beside the case, by hand, and compared with what the model says, but for those of
 `changed` and of other programs' vaults.
 """
 import pathlib
 import sys
 
+from header_model import (
+    AES, AES_KDF, ARGON2D, CHACHA20, END, ITEM_SIZES, SIGNATURES, TWOFISH, Refused, number, read_header
+)
 from vaults import text_field, vaults
 
 PROGRAM_LIMIT = 65_536
-SIGNATURES = bytes.fromhex("03d9a29a67fb4bb5")
-AES = bytes.fromhex("31c1f2e6bf714350be5805216afc5aff")
-CHACHA20 = bytes.fromhex("d6038a2b8b6f4cb5a524339a31dbb59a")
-TWOFISH = bytes.fromhex("ad68f29f576f4bb9a36ad47af965346c")
-AES_KDF = bytes.fromhex("c9d9f39a628a4460bf740d08c18a4fea")
-ARGON2D = bytes.fromhex("ef636ddf8c29444b91f7a9a403e30a0c")
-END = b"\r\n\r\n"
-
-# the reader
-
-SIZES = {0: 4, 2: 16, 3: 4, 4: 32, 7: None, 11: None, 12: None}
-NONCE_SIZES = {AES: 16, CHACHA20: 12}
-ITEM_SIZES = {0x04: 4, 0x05: 8, 0x08: 1, 0x0C: 4, 0x0D: 8, 0x18: None, 0x42: None}
-
-
-class Refused(Exception):
-    pass
-
-
-def need(condition, number):
-    if not condition:
-        raise Refused(number)
-
-
-def int32(data, at):
-    return int.from_bytes(data[at : at + 4], "little", signed=True)
-
-
-def sound_items(d):
-    """The items of a dictionary, name to type and value."""
-    need(len(d) >= 2 and d[1] == 1, 10)
-    items, at = {}, 2
-    while True:
-        need(at < len(d), 10)
-        kind, at = d[at], at + 1
-        if kind == 0:
-            need(at == len(d), 10)
-            return items
-        need(kind in ITEM_SIZES, 10)
-        parts = []
-        for _ in range(2):
-            need(at + 4 <= len(d), 10)
-            size = int32(d, at)
-            need(0 <= size <= len(d) - at - 4, 10)
-            parts.append(d[at + 4 : at + 4 + size])
-            at += 4 + size
-        name, value = parts
-        need(ITEM_SIZES[kind] in (None, len(value)), 10)
-        need(name not in items, 6)
-        items[name] = kind, value
-
-
-def judge_kdf(d):
-    items = sound_items(d)
-    kind, value = items.get(b"$UUID", (None, b""))
-    need(kind == 0x42 and len(value) == 16, 10)
-    need(value == AES_KDF, 9)
-    kind, value = items.get(b"S", (None, b""))
-    need(kind == 0x42 and len(value) == 32, 10)
-    kind, value = items.get(b"R", (None, b""))
-    need(kind == 0x05, 10)
-    need(int.from_bytes(value, "little") <= 4_000_000, 11)
-
-
-def frames(data):
-    """The frames of an outer header, or Refused."""
-    need(len(data) >= 12, 2)
-    need(data[:8] == SIGNATURES, 3)
-    need(int.from_bytes(data[8:12], "little") in (0x40000, 0x40001), 4)
-    found, values, at = [data[:12]], {}, 12
-    while 0 not in values:
-        need(at + 5 <= len(data), 2)
-        id_, size = data[at], int32(data, at + 1)
-        need(id_ in SIZES, 7)
-        need(id_ not in values, 6)
-        need(size >= 0 and SIZES[id_] in (None, size), 5)
-        end = at + 5 + size
-        need(end <= len(data), 2)
-        values[id_] = data[at + 5 : end]
-        found.append(data[at:end])
-        need(id_ != 0 or values[0] == END, 5)
-        at = end
-    need(all(id_ in values for id_ in (2, 3, 4, 7, 11)), 8)
-    need(values[2] in NONCE_SIZES, 9)
-    need(values[3] == bytes(4), 9)
-    need(len(values[7]) == NONCE_SIZES[values[2]], 5)
-    judge_kdf(values[11])
-    if 12 in values:
-        sound_items(values[12])
-    return found
 
 
 def listing(data):
     try:
-        need(len(data) <= PROGRAM_LIMIT, 1)
-        return 0, "".join(frame.hex().upper() + "\n" for frame in frames(data))
+        _, frames = read_header(data, PROGRAM_LIMIT)
+        return 0, "".join(frame.hex().upper() + "\n" for frame in frames)
     except Refused as refused:
-        number = refused.args[0]
-        return number, f"R{number:02}\n"
+        no = refused.args[0]
+        return no, f"R{no:02}\n"
 
 
 # the cases
-
-def number(n, size):
-    return (n % 256**size).to_bytes(size, "little")
-
 
 def field(id_, value, size=None):
     return bytes([id_]) + number(len(value) if size is None else size, 4) + value

@@ -13,31 +13,15 @@ import json
 import pathlib
 import sys
 
-from cryptography.hazmat.primitives import padding
-from cryptography.hazmat.primitives.ciphers import Cipher, algorithms, modes
+from payloads import payload_of
 from vaults import text_field, vaults
 
 LIMIT = 4_194_304
 ROOM = 64
-AES = bytes.fromhex("31C1F2E6BF714350BE5805216AFC5AFF")
 
 
 def sha256(*parts):
     return hashlib.sha256(b"".join(parts)).digest()
-
-
-def payload_of(vault):
-    """The payload of a vault, decrypted by its transformed key."""
-    data, at = b"", len(vault.header) + 64
-    while size := int.from_bytes(vault.file[at + 32 : at + 36], "little"):
-        data += vault.file[at + 36 : at + 36 + size]
-        at += 36 + size
-    key, nonce = sha256(vault.master_seed, vault.t), vault.fields[7]
-    if vault.fields[2] == AES:
-        decryptor = Cipher(algorithms.AES(key), modes.CBC(nonce)).decryptor()
-        unpadder = padding.PKCS7(128).unpadder()
-        return unpadder.update(decryptor.update(data) + decryptor.finalize()) + unpadder.finalize()
-    return Cipher(algorithms.ChaCha20(key, bytes(4) + nonce), None).decryptor().update(data)
 
 
 class Refused(Exception):

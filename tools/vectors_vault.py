@@ -2,11 +2,11 @@
 """Write what crates/vectors_vault reads and must print:   tools/vectors_vault.py FIXTURES
 
 FIXTURES is the folder of vaults that other programs wrote, with its manifest.json: who does not have it cannot run this
-script, and needs only crates/vectors_vault/stdin and stdout, which it writes. All rows come from a reader of outer
-headers, a whole opener and a plain opener of its own, told here from document 01, with Python's hashlib and hmac and
-the ciphers of the package cryptography, which is OpenSSL. What it opens of the vaults is compared with the manifest's
-block sizes, payload lengths and hashes; the numbers of made and damaged vaults are told beside each, by hand, and
-compared with what the openers say.
+script, and needs only crates/vectors_vault/stdin and stdout, which it writes. All rows come from a model of outer
+headers (header_model.py), and from a whole opener and a plain opener told here from document 01, with Python's hashlib
+and hmac and the ciphers of the package cryptography, which is OpenSSL. What it opens of the vaults is compared with the
+manifest's block sizes, payload lengths and hashes; the numbers of made and damaged vaults are told beside each, by
+hand, and compared with what the openers say.
 """
 import hashlib
 import hmac
@@ -15,6 +15,9 @@ import pathlib
 import sys
 
 from cryptography.hazmat.primitives.ciphers import Cipher, algorithms, modes
+from header_model import (
+    AES, AES_KDF, ARGON2D, CHACHA20, END, SIGNATURES, TWOFISH, Refused, int32, need, number, read_header
+)
 from vaults import text_field, vaults
 
 FILE_LIMIT = 4_194_304
@@ -22,36 +25,12 @@ TABLE_LIMIT = 1_000_000
 # The table has no room for all vaults: of two of KeePass 2 with Argon2, whose headers are refused, one is left out.
 LEFT_OUT = "kp2-v40-chacha-argon2id-pwkf"
 OUTPUT = 65_536
-SIGNATURES = bytes.fromhex("03d9a29a67fb4bb5")
-AES = bytes.fromhex("31c1f2e6bf714350be5805216afc5aff")
-CHACHA20 = bytes.fromhex("d6038a2b8b6f4cb5a524339a31dbb59a")
-TWOFISH = bytes.fromhex("ad68f29f576f4bb9a36ad47af965346c")
-AES_KDF = bytes.fromhex("c9d9f39a628a4460bf740d08c18a4fea")
-ARGON2D = bytes.fromhex("ef636ddf8c29444b91f7a9a403e30a0c")
-END = b"\r\n\r\n"
-
-
-class Refused(Exception):
-    """Carries a refusal's number."""
-
-
-def need(condition, no):
-    if not condition:
-        raise Refused(no)
 
 
 def must(condition, what):
     """For what this script expects of itself and of the vaults."""
     if not condition:
         sys.exit(f"not as expected: {what}")
-
-
-def number(n, size):
-    return (n % 256**size).to_bytes(size, "little")
-
-
-def int32(data, at):
-    return int.from_bytes(data[at : at + 4], "little", signed=True)
 
 
 def sha256(*parts):
@@ -64,74 +43,6 @@ def sha512(*parts):
 
 def tag_of(base, i, *parts):
     return hmac.digest(sha512(number(i, 8), base), b"".join(parts), "sha256")
-
-
-# the header
-
-SIZES = {0: 4, 2: 16, 3: 4, 4: 32, 7: None, 11: None, 12: None}
-NONCE_SIZES = {AES: 16, CHACHA20: 12}
-ITEM_SIZES = {0x04: 4, 0x05: 8, 0x08: 1, 0x0C: 4, 0x0D: 8, 0x18: None, 0x42: None}
-
-
-def sound_items(d):
-    """The items of a dictionary, name to type and value."""
-    need(len(d) >= 2 and d[1] == 1, 10)
-    items, at = {}, 2
-    while True:
-        need(at < len(d), 10)
-        kind, at = d[at], at + 1
-        if kind == 0:
-            need(at == len(d), 10)
-            return items
-        need(kind in ITEM_SIZES, 10)
-        parts = []
-        for _ in range(2):
-            need(at + 4 <= len(d), 10)
-            size = int32(d, at)
-            need(0 <= size <= len(d) - at - 4, 10)
-            parts.append(d[at + 4 : at + 4 + size])
-            at += 4 + size
-        name, value = parts
-        need(ITEM_SIZES[kind] in (None, len(value)), 10)
-        need(name not in items, 6)
-        items[name] = kind, value
-
-
-def judge_kdf(d):
-    items = sound_items(d)
-    kind, value = items.get(b"$UUID", (None, b""))
-    need(kind == 0x42 and len(value) == 16, 10)
-    need(value == AES_KDF, 9)
-    kind, value = items.get(b"S", (None, b""))
-    need(kind == 0x42 and len(value) == 32, 10)
-    kind, value = items.get(b"R", (None, b""))
-    need(kind == 0x05, 10)
-    need(int.from_bytes(value, "little") <= 4_000_000, 11)
-
-
-def read_header(f):
-    """The fields of a header and its length."""
-    need(len(f) <= FILE_LIMIT, 1)
-    need(len(f) >= 12, 2)
-    need(f[:8] == SIGNATURES, 3)
-    need(f[8:12] in (number(0x40000, 4), number(0x40001, 4)), 4)
-    values, at = {}, 12
-    while 0 not in values:
-        need(at + 5 <= len(f), 2)
-        id_, size = f[at], int32(f, at + 1)
-        need(id_ in SIZES, 7)
-        need(id_ not in values, 6)
-        need(size >= 0 and SIZES[id_] in (None, size), 5)
-        need(at + 5 + size <= len(f), 2)
-        values[id_] = f[at + 5 : at + 5 + size]
-        need(id_ != 0 or values[0] == END, 5)
-        at += 5 + size
-    need(values.keys() >= {2, 3, 4, 7, 11}, 8)
-    need(values[2] in NONCE_SIZES and values[3] == bytes(4), 9)
-    need(len(values[7]) == NONCE_SIZES[values[2]], 5)
-    judge_kdf(values[11])
-    sound_items(values.get(12, b"\0\1\0"))
-    return values, at
 
 
 # the openers
@@ -166,7 +77,8 @@ class Keys:
 
 def begin(f, t):
     """The checks up to the header's tag: the keys, and the place of the first block."""
-    values, n = read_header(f)
+    values, frames = read_header(f, FILE_LIMIT)
+    n = len(b"".join(frames))
     keys = Keys(values[2], values[7], values[4], t)
     need(len(f) >= n + 64, 2)
     need(f[n : n + 32] == sha256(f[:n]), 12)
