@@ -1,3 +1,4 @@
+pub mod Answers
 pub mod Dictionary
 pub mod Kdf
 pub mod Order

@@ -1,2 +1,3 @@
+pub mod Answers
 pub mod Kdbx4Header
 pub mod Frames
