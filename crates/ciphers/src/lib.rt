@@ -2,6 +2,7 @@
 //
 // The contracts cite specs/Ciphers. The identifiers and nonce lengths are constants of each cipher's type.
 ghost use mathlib.Core.Path.{_≡_};
+ghost use lib.ListN.{take};
 ghost use Rattle.ciphers.specs.Ciphers as ciphers;
 use aes::Aes256;
 use chacha20::ChaCha20;
@@ -52,4 +53,13 @@ impl Cipher {
             Cipher::ChaCha20 => ChaCha20::NONCE_LEN,
         }
     }
+}
+
+// ChaCha20's nonce: the first twelve bytes of a nonce that is kept in sixteen.
+pub fn short_nonce(nonce: [u8; 16]) -> [u8; 12]
+    ensures { λ r. ⌜ r ≡ take 12 nonce ⌝ }
+{
+    let mut front = [0u8; 12];
+    slices::copy(&mut front, &nonce);
+    front
 }

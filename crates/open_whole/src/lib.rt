@@ -102,15 +102,6 @@ fn open_aes(k: Keys, f: &[u8], p: usize, c: usize, out: &mut [u8]) -> Written
     }
 }
 
-// The first twelve bytes of a nonce.
-fn nonce12(nonce: [u8; 16]) -> [u8; 12]
-    ensures { λ r. ⌜ r ≡ take 12 nonce ⌝ }
-{
-    let mut front = [0u8; 12];
-    slices::copy(&mut front, &nonce);
-    front
-}
-
 // Fills `out` with the decryption of as many bytes of ChaCha20 ciphertext.
 fn fill_chacha20(k: Keys, f: &[u8], p: usize, out: &mut [u8])
     requires { ⌜ length (now out) ≤ length (text (now f) p) ⌝ }
@@ -119,7 +110,7 @@ fn fill_chacha20(k: Keys, f: &[u8], p: usize, out: &mut [u8])
     text::copy_text(f, p, 0, out);
     let key = k.key;
     let nonce = k.nonce;
-    ChaCha20::apply(key, nonce12(nonce), 0, out);
+    ChaCha20::apply(key, ciphers::short_nonce(nonce), 0, out);
 }
 
 // The payload of `c` bytes of ChaCha20 ciphertext.

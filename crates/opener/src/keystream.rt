@@ -1,20 +1,11 @@
 // A data block's part for ChaCha20: every byte is due, and the stream goes on where the block before ended.
 ghost use mathlib.Core.Path.{_≡_};
 ghost use Prim.Native.Nat.{_≤_};
-ghost use lib.ListN.{length, take};
+ghost use lib.ListN.{length};
 ghost use Rattle.slices.specs.Over.{over};
 ghost use Rattle.opening.specs.Decryption.{chaChaFrom};
 use chacha20::ChaCha20;
 use opening::Keys;
-
-// ChaCha20's nonce.
-fn short_nonce(nonce: [u8; 16]) -> [u8; 12]
-    ensures { λ r. ⌜ r ≡ take 12 nonce ⌝ }
-{
-    let mut a = [0u8; 12];
-    slices::copy(&mut a, &nonce);
-    a
-}
 
 // Fills `out` with the data and applies the stream, of which c bytes came before.
 fn apply_run(keys: Keys, c: usize, d: &[u8], out: &mut [u8])
@@ -24,7 +15,7 @@ fn apply_run(keys: Keys, c: usize, d: &[u8], out: &mut [u8])
     let key = keys.key;
     let nonce = keys.nonce;
     slices::copy(out, d);
-    ChaCha20::apply(key, short_nonce(nonce), c as u64, out);
+    ChaCha20::apply(key, ciphers::short_nonce(nonce), c as u64, out);
 }
 
 // A data block's part for ChaCha20: every byte is due.

@@ -34,15 +34,6 @@ fn lay_text(c: Cipher, piece: &[u8], out: &mut [u8])
     }
 }
 
-// ChaCha20's nonce: the first twelve bytes.
-fn nonce12(nonce: [u8; 16]) -> [u8; 12]
-    ensures { λ r. ⌜ r ≡ take 12 nonce ⌝ }
-{
-    let mut r = [0u8; 12];
-    slices::copy(&mut r, &nonce);
-    r
-}
-
 // Encrypts a stretch of the text where it stands: `prev` is the ciphertext piece before it, `at` the position of its first
 // byte. The answer is the piece for what follows.
 fn encrypt(keys: Keys, prev: [u8; 16], at: u64, out: &mut [u8]) -> [u8; 16]
@@ -58,7 +49,7 @@ fn encrypt(keys: Keys, prev: [u8; 16], at: u64, out: &mut [u8]) -> [u8; 16]
         Cipher::ChaCha20 => {
             let key = keys.key;
             let nonce = keys.nonce;
-            let first = nonce12(nonce);
+            let first = ciphers::short_nonce(nonce);
             ChaCha20::apply(key, first, at, out);
             return prev;
         }

@@ -23,7 +23,7 @@ returns c =
     let x = copied .copy-text .last .1 .1 .1 .0 in
     let e : x ≡ take (length d) t = over-full t d x (length d) refl (st .pre) (copied .copy-text .ensures) in
     c .before .before .apply .ensures
-    ∙ ap₂ (λ (n s : List ℕ). stream.apply (rfc8439.blocks (a .k .key) n) 0 s) (nonced .nonce12 .ensures) e
+    ∙ ap₂ (λ (n s : List ℕ). stream.apply (rfc8439.blocks (a .k .key) n) 0 s) (nonced .short-nonce .ensures) e
 
 pub fill-chacha20-spec : {M : Type 1} → statement M
 fill-chacha20-spec =

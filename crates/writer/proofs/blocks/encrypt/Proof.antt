@@ -30,7 +30,7 @@ returns-2 c =
     let s = now (a .out) in
     let e = at-told .enum-told2 .given .1 in (
       prev-chacha (a .keys .cipher) (a .keys) (a .prev) s e,
-      chacha-over (a .keys .cipher) (a .keys) (a .prev) (a .at) s _ _ e (at-nonce .nonce12 .ensures) (at-call .apply .ensures),
+      chacha-over (a .keys .cipher) (a .keys) (a .prev) (a .at) s _ _ e (at-nonce .short-nonce .ensures) (at-call .apply .ensures),
     )
 
 pub encrypt-spec : {M : Type 1} → statement M

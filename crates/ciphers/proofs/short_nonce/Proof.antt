@@ -1,12 +1,12 @@
--- `opener::keystream::short_nonce` meets its contract. Assumes nothing.
+-- `ciphers::short_nonce` meets its contract. Assumes nothing.
 use mathlib.Core.Path.{_≡_, _∙_}
 use native.Mathlib.Omega.{arith}
 use lib.ListN.{length, take, replicate}
 use lib.Seq.{length-take-le}
 use Rattle.slices.proofs.Laws.Over.{over-all}
 use borrow.Author.Needs.{needs}
-use Rattle.opener.proofs.keystream.short_nonce.Statement.{statement}
-use Rattle.opener.proofs.keystream.short_nonce.Tie as tie
+use Rattle.ciphers.proofs.short_nonce.Statement.{statement}
+use Rattle.ciphers.proofs.short_nonce.Tie as tie
 
 returns : tie.Need-returns
 returns c =
