@@ -1,19 +1,8 @@
 // The ciphertext of a file's blocks, copied out by their sizes alone.
 ghost use mathlib.Core.Path.{_≡_};
-ghost use Prim.Native.Nat.{min};
 ghost use lib.ListN.{length, take, drop};
 ghost use Rattle.slices.specs.Over.{over};
 ghost use Rattle.open_whole.specs.Ciphertext as ciphertext;
-
-// The lesser of two numbers.
-fn least(a: usize, b: usize) -> usize
-    ensures { λ r. ⌜ r ≡ min a b ⌝ }
-{
-    if a < b {
-        return a;
-    }
-    b
-}
 
 // The size of the block at a place, 0 where it is not all there.
 fn block_size(f: &[u8], at: usize) -> usize
@@ -45,8 +34,8 @@ pub fn copy_text(f: &[u8], p: usize, skip: usize, out: &mut [u8])
         if n == 0 {
             return;
         }
-        let s = least(left, n);
-        let m = least(out.len() - done, n - s);
+        let s = slices::least(left, n);
+        let m = slices::least(out.len() - done, n - s);
         let start = at + 36 + s;
         let end = at + 36 + n;
         slices::copy(&mut out[done..], &f[start..end]);

@@ -1,4 +1,4 @@
-// Slices of bytes: copying into a lent one, comparing two, a part of one, zeroing.
+// Slices of bytes: copying into a lent one, comparing two, a part of one, zeroing; and the lesser of two lengths.
 //
 // The contracts cite specs/Over (what stands in a lent slice after a writing) and specs/Same. Every function answers every
 // input: a copy takes as many bytes as there is room for, and slices of two lengths differ.
@@ -9,7 +9,7 @@ ghost use Rattle.slices.specs.Over.{over, putAt};
 ghost use Rattle.slices.specs.Same.{same as sameLists};
 
 // The lesser of two numbers.
-fn least(a: usize, b: usize) -> usize
+pub fn least(a: usize, b: usize) -> usize
     ensures { λ r. ⌜ r ≡ min a b ⌝ }
 {
     if a < b {
