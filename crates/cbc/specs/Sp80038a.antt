@@ -1,7 +1,7 @@
 -- NIST SP 800-38A (December 2001), Recommendation for Block Cipher Modes of Operation: the CBC mode, at blocks of 128 bits.
 --
 --   4.2.2  X ⊕ Y                     words' Xor.xors
---   5.1    the block cipher          IsBlock, Inverse
+--   5.1    the block cipher          words' Block.IsBlock, Inverse
 --   5.2    strings and their blocks  blocks, wholeBlocks, joined
 --   6.2    CBC Encryption            encryptBlocks, encrypt
 --   6.2    CBC Decryption            decryptBlocks, decrypt
@@ -13,15 +13,11 @@
 -- Assumes nothing.
 use mathlib.Core.Path.{_≡_}
 use mathlib.Core.List.{List, [], _∷_, _++_}
-use Prim.Native.Nat.{ℕ, zero, suc, _/_}
-use lib.ListN.{length, take, drop}
-use Rattle.words.specs.Endian.{Bytes}
+use Prim.Native.Nat.{ℕ, _/_}
+use lib.ListN.{length}
+use Rattle.words.specs.Block.{IsBlock}
 use Rattle.words.specs.Xor.{xors}
-
--- a block, sixteen bytes
-pub record IsBlock (x : List ℕ) : Type 0 where
-  pub size : length x ≡ 16
-  pub bytes : Bytes x
+use Rattle.slices.specs.Cut.{cut}
 
 -- 5.1: a cipher on blocks, and its inverse
 pub record Inverse (ciph inv : List ℕ → List ℕ) : Type 0 where
@@ -44,9 +40,8 @@ lastBlock c [] = c
 lastBlock c (x ∷ xs) = lastBlock x xs
 
 -- 5.2: the first n blocks of a string, its whole blocks, and the string of blocks
-unfoldable pub blocks : ℕ → List ℕ → List (List ℕ)
-blocks zero s = []
-blocks (suc n) s = take 16 s ∷ blocks n (drop 16 s)
+abbrev pub blocks : ℕ → List ℕ → List (List ℕ)
+blocks n s = cut 16 n s
 
 unfoldable pub wholeBlocks : List ℕ → List (List ℕ)
 wholeBlocks s = blocks (length s / 16) s

@@ -4,9 +4,24 @@ use mathlib.Core.List.{List, [], _∷_}
 use Prim.Native.Nat.{ℕ, _+_, _*_}
 use native.Mathlib.Omega.{arith}
 use Rattle.words.specs.Endian.{be}
+use Rattle.words.specs.Block.{IsBlock}
 use Rattle.gf256.specs.Gf256.{xTimes, gmulBits, gmul, gmulSquares, ginv, bit, affineBit, fromBits, sbox}
 use Rattle.fips197.specs.Tabulate.{tabulate}
-use Rattle.fips197.specs.Fips197.{IsBlock, round, rounds, finalRound, cipher, rotWord, subWord, xPow, rcon, temp, nextWord, expanded, keyExpansion, invCipher}
+use Rattle.fips197.specs.Fips197.{
+  round,
+  rounds,
+  finalRound,
+  cipher,
+  rotWord,
+  subWord,
+  xPow,
+  rcon,
+  temp,
+  nextWord,
+  expanded,
+  keyExpansion,
+  invCipher,
+}
 use Rattle.fips197.proofs.Laws.States.{state-block}
 use Rattle.fips197.proofs.Laws.Inverse.{invCipher-cipher}
 

@@ -3,9 +3,31 @@ use mathlib.Core.Path.{_≡_, refl}
 use mathlib.Core.List.{List, [], _∷_}
 use Prim.Native.Nat.{ℕ}
 use Rattle.words.specs.Endian.{be, beBytes}
-use Rattle.sha2.specs.Fips180.{sha256, hash, pad, padding, zeroBytes, parse, cut, hashBlocks, digest, compress, schedule, grow, wordAfter, nextWord, blockWords, rounds, round, roundOn, T1, T2, sums}
+use Rattle.sha2.specs.Fips180.{
+  sha256,
+  hash,
+  pad,
+  padding,
+  zeroBytes,
+  parse,
+  hashBlocks,
+  digest,
+  compress,
+  schedule,
+  grow,
+  wordAfter,
+  nextWord,
+  blockWords,
+  rounds,
+  round,
+  roundOn,
+  T1,
+  T2,
+  sums,
+}
 use Rattle.sha2.specs.Fips180.Constants.{K256, iv256}
 use Rattle.slices.specs.Over.{over}
+use Rattle.slices.specs.Cut.{cut}
 use Rattle.hmac.specs.Rfc2104.{xorEach, keyBlock, hmac}
 
 -- key "Jefe", data "what do ya want for nothing?"

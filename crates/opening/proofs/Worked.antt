@@ -15,10 +15,10 @@ use borrow.Author.Tests.{eq-eqb, ne-eqb, le-ltb}
 use lib.ListN.{length, take, drop, length-append, length-drop}
 use lib.Seq.{length-take-le}
 use Rattle.words.specs.Endian.{Bytes}
+use Rattle.words.specs.Block.{IsBlock}
 use Rattle.refusals.specs.declared.Written.{Written}
 use Rattle.refusals.specs.declared.Written.the-variants.{Wrote}
 use Rattle.refusals.specs.Limits.{fileLimit}
-use Rattle.cbc.specs.Sp80038a.{IsBlock}
 use Rattle.pkcs7.specs.Pkcs7.{padding, strip}
 use Rattle.pkcs7.proofs.Laws.Padding.{padding-le}
 use Rattle.ciphers.specs.declared.Cipher.{Cipher}

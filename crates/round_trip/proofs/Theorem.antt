@@ -15,12 +15,11 @@ use Rattle.words.proofs.Laws.Bytes.{bytes-append, bytes-replicate}
 use Rattle.refusals.proofs.Laws.Limits.{block-positive}
 use Rattle.words.specs.Endian.{Bytes}
 use Rattle.words.proofs.Laws.Cases.{by-bool}
+use Rattle.words.specs.Block.{IsBlock}
 use Rattle.refusals.specs.Limits.{fileLimit, payloadLimit, writtenBlock}
 use Rattle.refusals.specs.declared.Refusal.{Refusal}
 use Rattle.refusals.specs.declared.Refusal.the-variants.{TooLong}
 use Rattle.refusals.specs.declared.Written.the-variants as written
-use Rattle.cbc.specs.Sp80038a.{IsBlock}
-use Rattle.ciphers.specs.Ciphers.{nonceLength}
 use Rattle.ciphers.specs.declared.Cipher.{Cipher}
 use Rattle.ciphers.specs.declared.Cipher.the-variants.{Aes256, ChaCha20}
 use Rattle.fields.specs.Fields.{bytesAt}
@@ -34,7 +33,6 @@ use Rattle.header_writer.specs.declared.Checked.the-variants.{As, Refused}
 use Rattle.header_writer.proofs.Laws.CheckedLaws.{IsChecked, checked-as}
 use Rattle.header_writer.proofs.Laws.Layout.{nonceLength-le}
 use Rattle.header_writer.proofs.RoundTrip.{header-read-back}
-use Rattle.block_stream.specs.Blocks.{blockBytes}
 use Rattle.block_stream.proofs.Laws.Judged.{length-blockBytes}
 use Rattle.opening.specs.declared.Keys.{Keys}
 use Rattle.opening.specs.Decryption.{Opened, opened, payloadBy, payload}

@@ -3,7 +3,30 @@ use mathlib.Core.Path.{_≡_, refl}
 use mathlib.Core.List.{List, [], _∷_}
 use Prim.Native.Nat.{ℕ}
 use Rattle.words.specs.Endian.{be, beBytes}
-use Rattle.sha2.specs.Fips180.{sha256, sha512, hash, pad, padding, zeroBytes, parse, cut, hashBlocks, digest, compress, schedule, grow, wordAfter, nextWord, blockWords, rounds, round, roundOn, T1, T2, sums}
+use Rattle.slices.specs.Cut.{cut}
+use Rattle.sha2.specs.Fips180.{
+  sha256,
+  sha512,
+  hash,
+  pad,
+  padding,
+  zeroBytes,
+  parse,
+  hashBlocks,
+  digest,
+  compress,
+  schedule,
+  grow,
+  wordAfter,
+  nextWord,
+  blockWords,
+  rounds,
+  round,
+  roundOn,
+  T1,
+  T2,
+  sums,
+}
 use Rattle.sha2.specs.Fips180.Constants.{K256, K512, iv256, iv512}
 
 -- "abc": one block

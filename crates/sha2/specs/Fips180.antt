@@ -5,7 +5,7 @@
 --   4.1.2, 4.1.3        functions               ch, maj, bigSigma, smallSigma
 --   4.2.2, 4.2.3        constants               Constants: K256, K512
 --   5.1.1, 5.1.2        padding                 zeroBytes, padding, pad
---   5.2.1, 5.2.2        parsing                 blockBytes, cut, parse
+--   5.2.1, 5.2.2        parsing                 blockBytes, parse
 --   5.3.3, 5.3.5        initial hash values     Constants: iv256, iv512
 --   6.2.2, 6.4.2        computation             schedule, round, rounds, compress, hashBlocks, digest, hash
 -- Left out: SHA-1, SHA-224, SHA-384, SHA-512/t.
@@ -18,6 +18,7 @@ use lib.Bits.{bitAnd, bitXor}
 use lib.ListN.{length, getD, take, drop, replicate}
 use Rattle.words.specs.Word.{plus, rotr, shr}
 use Rattle.words.specs.Endian.{be, beBytes}
+use Rattle.slices.specs.Cut.{cut}
 pub mod Constants
 use Rattle.sha2.specs.Fips180.Constants.{K256, K512, iv256, iv512}
 
@@ -63,11 +64,7 @@ padding p n = 0x80 ∷ (replicate (zeroBytes p n) 0 ++ beBytes (2 * p .bytes) (8
 unfoldable pub pad : Sha2 → List ℕ → List ℕ
 pad p m = m ++ padding p (length m)
 
--- 5.2: the first n blocks of b bytes, and all whole blocks
-unfoldable pub cut : ℕ → ℕ → List ℕ → List (List ℕ)
-cut b zero m = []
-cut b (suc n) m = take b m ∷ cut b n (drop b m)
-
+-- 5.2: all whole blocks
 unfoldable pub parse : Sha2 → List ℕ → List (List ℕ)
 parse p m = cut (blockBytes p) (length m / blockBytes p) m
 

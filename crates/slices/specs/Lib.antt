@@ -1,2 +1,3 @@
+pub mod Cut
 pub mod Over
 pub mod Same

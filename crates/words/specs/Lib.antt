@@ -1,3 +1,4 @@
+pub mod Block
 pub mod Endian
 pub mod Size
 pub mod Word

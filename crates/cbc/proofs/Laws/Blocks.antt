@@ -19,7 +19,9 @@ use lib.Seq.{length-take-le, take-append-le, drop-append-le, take-at, drop-at, d
 use Rattle.words.specs.Endian.{Bytes}
 use Rattle.words.specs.Xor.{xors}
 use Rattle.words.proofs.Laws.Xors.{length-xors}
-use Rattle.cbc.specs.Sp80038a.{IsBlock, blocks, wholeBlocks, joined}
+use Rattle.words.specs.Block.{IsBlock}
+use Rattle.slices.specs.Cut.{cut}
+use Rattle.cbc.specs.Sp80038a.{blocks, wholeBlocks, joined}
 
 -- a list of lists of sixteen
 pub data Sizes : List (List ℕ) → Type 0 where
@@ -36,23 +38,23 @@ all-sizes all-none = sizes-none
 all-sizes (all-more p q) = sizes-more (p .size) (all-sizes q)
 
 pub length-blocks : (n : ℕ) (s : List ℕ) → length (blocks n s) ≡ n
-unfolding blocks
+unfolding cut
 length-blocks zero s = refl
 length-blocks (suc n) s = ap suc (length-blocks n (drop 16 s))
 
 pub blocks-add : (n m : ℕ) (s : List ℕ) → blocks (n + m) s ≡ blocks n s ++ blocks m (drop (16 * n) s)
-unfolding blocks
+unfolding cut
 blocks-add zero m s = rw (zero-add m)
 blocks-add (suc n) m s =
     let e : 16 + 16 * n ≡ 16 * suc n = omega arith in
     rw (suc-add n m, blocks-add n m (drop 16 s), drop-drop (16 * n) 16 s, e)
 
 pub blocks-snoc : (n : ℕ) (s : List ℕ) → blocks (n + 1) s ≡ blocks n s ++ (take 16 (drop (16 * n) s) ∷ [])
-unfolding blocks
+unfolding cut
 blocks-snoc n s = blocks-add n 1 s
 
 pub blocks-append : (n : ℕ) (a b : List ℕ) → 16 * n ≤ length a → blocks n (a ++ b) ≡ blocks n a
-unfolding blocks
+unfolding cut
 blocks-append zero a b h = refl
 blocks-append (suc n) a b h =
     let one : 16 ≤ length a = omega arith in
@@ -60,7 +62,7 @@ blocks-append (suc n) a b h =
     rw (take-append-le 16 a b one, drop-append-le 16 a b one, blocks-append n (drop 16 a) b left)
 
 pub blocks-sizes : (n : ℕ) (s : List ℕ) → 16 * n ≤ length s → Sizes (blocks n s)
-unfolding blocks
+unfolding cut
 blocks-sizes zero s h = sizes-none
 blocks-sizes (suc n) s h =
     let rest = length-drop 16 s in
@@ -74,7 +76,7 @@ take-bytes (suc n) (x ∷ s) b zero = b 0
 take-bytes (suc n) (x ∷ s) b (suc k) = take-bytes n s (λ i. b (suc i)) k
 
 pub blocks-all : (n : ℕ) (s : List ℕ) → 16 * n ≤ length s → Bytes s → AllBlocks (blocks n s)
-unfolding blocks
+unfolding cut
 blocks-all zero s h b = all-none
 blocks-all (suc n) s h b =
     let rest = length-drop 16 s in
@@ -94,7 +96,7 @@ length-joined (sizes-more {x} {xs} p q) =
     simp length-append (omega arith)
 
 pub joined-blocks : (n : ℕ) (s : List ℕ) → length s ≡ 16 * n → joined (blocks n s) ≡ s
-unfolding blocks joined
+unfolding cut joined
 joined-blocks zero [] e = refl
 joined-blocks zero (x ∷ s) e = absurd (omega arith)
 joined-blocks (suc n) s e =
@@ -102,7 +104,7 @@ joined-blocks (suc n) s e =
     rw (joined-blocks n (drop 16 s) left, take-append-drop 16 s)
 
 pub blocks-joined : {xs : List (List ℕ)} → Sizes xs → blocks (length xs) (joined xs) ≡ xs
-unfolding blocks joined
+unfolding cut joined
 blocks-joined sizes-none = refl
 blocks-joined (sizes-more {x} {xs} p q) = rw (take-at x (joined xs) 16 p, drop-at x (joined xs) 16 p, blocks-joined q)
 

@@ -15,7 +15,8 @@ use native.Mathlib.Omega.{arith}
 use lib.ListN.{length}
 use Rattle.words.specs.Xor.{xors}
 use Rattle.words.proofs.Laws.Xors.{xors-undo}
-use Rattle.cbc.specs.Sp80038a.{IsBlock, Inverse, encryptBlocks, decryptBlocks, lastBlock}
+use Rattle.words.specs.Block.{IsBlock}
+use Rattle.cbc.specs.Sp80038a.{Inverse, encryptBlocks, decryptBlocks, lastBlock}
 use Rattle.cbc.proofs.Laws.Blocks.{Sizes, sizes-none, sizes-more, AllBlocks, all-none, all-more, xors-size, xors-block}
 
 pub lastBlock-append : (c : List ℕ) (xs ys : List (List ℕ)) → lastBlock c (xs ++ ys) ≡ lastBlock (lastBlock c xs) ys
@@ -27,11 +28,6 @@ pub lastBlock-size : (c : List ℕ) → length c ≡ 16 → {xs : List (List ℕ
 unfolding lastBlock
 lastBlock-size c h sizes-none = h
 lastBlock-size c h (sizes-more {x} {xs} p q) = lastBlock-size x p q
-
-pub lastBlock-block : (c : List ℕ) → IsBlock c → {xs : List (List ℕ)} → AllBlocks xs → IsBlock (lastBlock c xs)
-unfolding lastBlock
-lastBlock-block c h all-none = h
-lastBlock-block c h (all-more {x} {xs} p q) = lastBlock-block x p q
 
 -- two blocks added, and one taken away again
 xors-back : (x y : List ℕ) → length x ≡ 16 → length y ≡ 16 → xors (xors x y) y ≡ x

@@ -16,7 +16,20 @@ use lib.ListN.{length, take, drop, length-drop, take-append-drop}
 use lib.Seq.{take-all, take-at, length-take-le}
 use Rattle.words.specs.Endian.{Bytes}
 use Rattle.words.specs.Xor.{xors}
-use Rattle.cbc.specs.Sp80038a.{IsBlock, Inverse, encryptBlocks, decryptBlocks, lastBlock, blocks, wholeBlocks, joined, encrypt, decrypt, previous}
+use Rattle.words.specs.Block.{IsBlock}
+use Rattle.slices.specs.Cut.{cut}
+use Rattle.cbc.specs.Sp80038a.{
+  Inverse,
+  encryptBlocks,
+  decryptBlocks,
+  lastBlock,
+  blocks,
+  wholeBlocks,
+  joined,
+  encrypt,
+  decrypt,
+  previous,
+}
 use Rattle.cbc.proofs.Laws.Blocks.{
   all-sizes,
   length-blocks,
@@ -98,7 +111,7 @@ previous-size c s h = lastBlock-size c h (wholeBlocks-sizes s)
 
 -- the last sixteen bytes of whole blocks
 pub previous-last : (c s : List ℕ) → length s % 16 ≡ 0 → 16 ≤ length s → previous c s ≡ drop (length s - 16) s
-unfolding previous wholeBlocks lastBlock blocks
+unfolding previous wholeBlocks lastBlock cut
 previous-last c s h l =
     let n : length s / 16 ≡ (length s - 16) / 16 + 1 = omega arith in
     let m : 16 * ((length s - 16) / 16) ≡ length s - 16 = omega arith in

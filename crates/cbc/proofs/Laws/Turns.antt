@@ -16,6 +16,7 @@ use lib.ListN.{length, take, drop}
 use Rattle.words.specs.Xor.{xors}
 use Rattle.slices.specs.Over.{over}
 use Rattle.slices.proofs.Laws.Over.{length-over, over-tail, drop-over}
+use Rattle.slices.specs.Cut.{cut}
 use Rattle.cbc.specs.Sp80038a.{encryptBlocks, decryptBlocks, lastBlock, blocks, wholeBlocks, joined, encrypt, decrypt, previous}
 use Rattle.cbc.proofs.Laws.Blocks.{length-blocks, blocks-snoc, blocks-sizes, joined-append, length-joined, wholeBlocks-sizes, wholeBlocks-joined}
 use Rattle.cbc.proofs.Laws.Chain.{
@@ -37,7 +38,7 @@ abbrev pub cipherBlock : List ℕ → List ℕ → ℕ → List ℕ
 cipherBlock c s i = lastBlock c (blocks i s)
 
 pub cipherBlock-zero : (c s : List ℕ) → cipherBlock c s 0 ≡ c
-unfolding lastBlock blocks
+unfolding lastBlock cut
 cipherBlock-zero c s = refl
 
 pub cipherBlock-more : (c s : List ℕ) (i : ℕ) → cipherBlock c s (i + 1) ≡ blockAt i s
@@ -53,7 +54,7 @@ unfoldable pub decryptedTo : (List ℕ → List ℕ) → List ℕ → List ℕ �
 decryptedTo inv c s n = joined (decryptBlocks inv c (blocks n s))
 
 pub decryptedTo-zero : (inv : List ℕ → List ℕ) (c s d : List ℕ) → d ≡ over (decryptedTo inv c s 0) d
-unfolding decryptedTo joined decryptBlocks blocks over
+unfolding decryptedTo joined decryptBlocks cut over
 decryptedTo-zero inv c s d = refl
 
 pub decryptedTo-more : (inv : List ℕ → List ℕ) (c s : List ℕ) (i : ℕ)
@@ -75,11 +76,11 @@ unfoldable pub encryptedLast : (List ℕ → List ℕ) → List ℕ → List ℕ
 encryptedLast ciph c s n = lastBlock c (encryptBlocks ciph c (blocks n s))
 
 pub encryptedTo-zero : (ciph : List ℕ → List ℕ) (c s d : List ℕ) → d ≡ over (encryptedTo ciph c s 0) d
-unfolding encryptedTo joined encryptBlocks blocks over
+unfolding encryptedTo joined encryptBlocks cut over
 encryptedTo-zero ciph c s d = refl
 
 pub encryptedLast-zero : (ciph : List ℕ → List ℕ) (c s : List ℕ) → encryptedLast ciph c s 0 ≡ c
-unfolding encryptedLast encryptBlocks lastBlock blocks
+unfolding encryptedLast encryptBlocks lastBlock cut
 encryptedLast-zero ciph c s = refl
 
 pub encryptedTo-more : (ciph : List ℕ → List ℕ) (c s : List ℕ) (i : ℕ)

@@ -11,7 +11,20 @@ use mathlib.Core.List.{List}
 use Prim.Native.Nat.{ℕ, zero, suc, _+_, _-_}
 use native.Mathlib.Omega.{arith}
 use lib.ListN.{length}
-use Rattle.fips197.specs.Fips197.{IsBlock, mixColumns, addRoundKey, round, rounds, finalRound, cipher, invMixColumns, invRound, invRounds, invFinalRound, invCipher}
+use Rattle.words.specs.Block.{IsBlock}
+use Rattle.fips197.specs.Fips197.{
+  mixColumns,
+  addRoundKey,
+  round,
+  rounds,
+  finalRound,
+  cipher,
+  invMixColumns,
+  invRound,
+  invRounds,
+  invFinalRound,
+  invCipher,
+}
 use Rattle.fips197.proofs.Laws.Transformations.{
   addRoundKey-addRoundKey,
   addRoundKey-block,

@@ -10,7 +10,8 @@ use native.Mathlib.Omega.{arith}
 use lib.Dec.{lit<}
 use lib.ListN.{length, getD, take}
 use lib.Seq.{getD-take, length-take-le}
-use Rattle.fips197.specs.Fips197.{at, state, IsBlock}
+use Rattle.words.specs.Block.{IsBlock}
+use Rattle.fips197.specs.Fips197.{at, state}
 
 -- n entries of a list from the place i on
 abbrev spelled : ℕ → ℕ → List ℕ → List ℕ

@@ -14,9 +14,22 @@ use native.Mathlib.Omega.{arith}
 use lib.Bits.{bitXor, xor-lt}
 use lib.ListN.{length, getD}
 use Rattle.words.proofs.Laws.Xor.{xor-undo}
+use Rattle.words.specs.Block.{IsBlock}
 use Rattle.gf256.specs.Gf256.{sbox, invSbox}
 use Rattle.gf256.proofs.Laws.Sbox.{sbox-lt, invSbox-lt, invSbox-sbox, sbox-invSbox}
-use Rattle.fips197.specs.Fips197.{IsBlock, at, byteOf, subBytes, shiftRows, mixByte, mixColumns, addRoundKey, invShiftRows, invSubBytes, invMixByte, invMixColumns}
+use Rattle.fips197.specs.Fips197.{
+  at,
+  byteOf,
+  subBytes,
+  shiftRows,
+  mixByte,
+  mixColumns,
+  addRoundKey,
+  invShiftRows,
+  invSubBytes,
+  invMixByte,
+  invMixColumns,
+}
 use Rattle.fips197.proofs.Laws.Words.{byteOf-lt}
 use Rattle.fips197.proofs.Laws.States.{state-own, state-same, state-block}
 use Rattle.fips197.proofs.Laws.Mix.{row, after, Undoes, mixByte-lt, invMixByte-lt, invMixByte-mixByte, mixByte-invMixByte}

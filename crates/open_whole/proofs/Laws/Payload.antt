@@ -22,6 +22,7 @@ use Rattle.refusals.specs.declared.Refusal.the-variants.{WrongPadding}
 use Rattle.ciphers.specs.declared.Cipher.the-variants.{Aes256, ChaCha20}
 use Rattle.slices.specs.Over.{over}
 use Rattle.slices.proofs.Laws.Over.{over-all}
+use Rattle.slices.specs.Cut.{cut}
 use Rattle.cbc.specs.Sp80038a.{blocks, lastBlock, previous, wholeBlocks}
 use Rattle.cbc.proofs.Laws.Mode.{decrypt-append, previous-last, previous-size, length-decrypt}
 use Rattle.fips197.specs.Fips197.{invCipher}
@@ -125,7 +126,7 @@ module _ (k : Keys) (t : List ℕ) (c : ℕ) (n : length (k .nonce) ≡ 16) (lt 
       length-append front (take (16 - q) x) ∙ ap₂ _+_ length-front (length-take-le (16 - q) x (omega arith))
 
 pub previous-one : (v t : List ℕ) (c : ℕ) → c ≡ 16 → previous v (take (c - 16) t) ≡ v
-unfolding previous wholeBlocks lastBlock blocks
+unfolding previous wholeBlocks lastBlock cut
 previous-one v t c e = rw e
 
 pub previous-two : (v t : List ℕ) (c : ℕ) → c ≡ length t → c % 16 ≡ 0 → 32 ≤ c

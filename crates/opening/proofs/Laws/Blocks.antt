@@ -18,7 +18,8 @@ use lib.Dec.{eqb}
 use lib.ListN.{length, take, drop, replicate, length-append, length-drop, take-append-drop, drop-of-length-le}
 use lib.Seq.{take-at, drop-at, take-all, take-add, take-append-le, drop-drop, drop-append-le, length-take-le}
 use Rattle.words.proofs.Laws.Cases.{by-bool}
-use Rattle.cbc.specs.Sp80038a.{lastBlock, blocks, wholeBlocks, previous}
+use Rattle.slices.specs.Cut.{cut}
+use Rattle.cbc.specs.Sp80038a.{lastBlock, wholeBlocks, previous}
 use Rattle.cbc.proofs.Laws.Mode.{previous-append, previous-size}
 use Rattle.pkcs7.specs.Pkcs7.{strip}
 use Rattle.ciphers.specs.declared.Cipher.{Cipher}
@@ -162,7 +163,7 @@ lastBy-standing ChaCha20 k w t =
     rw (drop-of-length-le (chaChaFrom k 0 t) l)
 
 pub firstPrev-standing : (z : Cipher) (v : List ℕ) → firstPrev z v ≡ prevOf z v []
-unfolding firstPrev prevOf handed previous wholeBlocks blocks lastBlock
+unfolding firstPrev prevOf handed previous wholeBlocks cut lastBlock
 firstPrev-standing Aes256 v = refl
 firstPrev-standing ChaCha20 v = refl
 

@@ -10,8 +10,8 @@ use native.Mathlib.Omega.{arith}
 use borrow.Author.Tests.{eq-eqb, ne-eqb}
 use lib.ListN.{length, take}
 use Rattle.words.specs.Endian.{Bytes}
+use Rattle.words.specs.Block.{IsBlock}
 use Rattle.fips197.specs.Fips197.{cipher}
-use Rattle.cbc.specs.Sp80038a.{IsBlock}
 use Rattle.cbc.proofs.Laws.Mode.{length-encrypt}
 use Rattle.aes_cbc.specs.Aes256Cbc as aes256Cbc
 use Rattle.aes_cbc.proofs.RoundTrip.{cipher-keeps, aesCbc-decrypt-encrypt}

@@ -21,7 +21,8 @@ use borrow.Author.Tests.{ltb-true, ltb-false}
 use Rattle.words.proofs.Laws.Cases.{by-bool}
 use Rattle.words.proofs.Laws.Endian.{be-take}
 use Rattle.slices.proofs.Laws.Parts.{part-tail}
-use Rattle.sha2.specs.Fips180.{Sha2, blockBytes, cut, parse, blockWords, schedule, compress, hashBlocks}
+use Rattle.slices.specs.Cut.{cut}
+use Rattle.sha2.specs.Fips180.{Sha2, blockBytes, parse, blockWords, schedule, compress, hashBlocks}
 use Rattle.sha2.specs.Hashing.{rest}
 
 -- a list, by whether it has a block of b bytes
