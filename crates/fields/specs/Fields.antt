@@ -5,6 +5,7 @@
 --    not repeated (6), size not negative and right for a fixed field (5),
 --    value present (2)"                                                    fieldAt, valueAt, fits
 -- Both headers have this order, with their own IDs, repetitions and sizes: `listed`, `repeated` and `rule`.
+-- Places of values: bytesAt, endOf; of an absent field: nowhere, given.
 -- Assumes nothing.
 use mathlib.Core.Bool.{Bool, true, false, cond}
 use mathlib.Core.List.{List, [], _∷_, _++_}
@@ -29,6 +30,13 @@ bytesAt s p = take (p .length) (drop (p .start) s)
 -- where the byte behind a place stands
 abbrev pub endOf : Place → ℕ
 endOf p = p .start + p .length
+
+-- the place of a field that is absent, and whether a field is there: no field's value stands at 0
+abbrev pub nowhere : Place
+nowhere = record { start = 0; length = 0 }
+
+abbrev pub given : Place → Bool
+given p = not (eqb (p .start) 0)
 
 unfoldable pub fits : SizeRule → ℕ → Bool
 fits Any n = true

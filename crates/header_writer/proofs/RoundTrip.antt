@@ -20,7 +20,7 @@ use Rattle.words.specs.Endian.{le, leBytes}
 use Rattle.words.proofs.Laws.Cases.{by-bool}
 use Rattle.refusals.specs.declared.Outcome.the-variants as outcome
 use Rattle.refusals.specs.Limits.{fileLimit, roundsLimit}
-use Rattle.fields.specs.Fields.{bytesAt, fits, fieldBytes}
+use Rattle.fields.specs.Fields.{bytesAt, fits, fieldBytes, nowhere}
 use Rattle.fields.specs.declared.Place.{Place}
 use Rattle.ciphers.specs.Ciphers.{identifier, cipherOf, nonceLength}
 use Rattle.ciphers.specs.declared.Cipher.{Cipher}
@@ -36,7 +36,6 @@ use Rattle.outer_header.specs.Kdbx4Header.{
   sizeRule,
   seen,
   put,
-  nowhere,
   noFields,
   walk,
   complete,

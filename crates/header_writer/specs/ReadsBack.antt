@@ -10,12 +10,12 @@ use mathlib.Core.List.{List}
 use Prim.Native.Nat.{ℕ, _+_}
 use lib.Dec.{eqb}
 use lib.ListN.{length}
-use Rattle.fields.specs.Fields.{bytesAt}
+use Rattle.fields.specs.Fields.{bytesAt, nowhere}
 use Rattle.fields.specs.declared.Place.{Place}
 use Rattle.ciphers.specs.Ciphers.{nonceLength}
 use Rattle.ciphers.specs.declared.Cipher.{Cipher}
-use Rattle.dictionary.specs.Kdf.{kdfBytes}
-use Rattle.outer_header.specs.Kdbx4Header.{nowhere, header}
+use Rattle.kdf_dictionary.specs.Kdf.{kdfBytes}
+use Rattle.outer_header.specs.Kdbx4Header.{header}
 use Rattle.outer_header.specs.declared.Header.{Header}
 use Rattle.outer_header.specs.declared.Reading.the-variants as read
 use Rattle.header_writer.specs.Written.{headerBytes, headerLength}

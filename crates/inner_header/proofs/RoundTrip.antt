@@ -34,7 +34,7 @@ use Rattle.refusals.specs.declared.Outcome.the-variants as outcome
 use Rattle.refusals.specs.Limits.{payloadLimit}
 use Rattle.refusals.proofs.Laws.Limits.{payload-size}
 use Rattle.fields.specs.declared.Place.{Place}
-use Rattle.fields.specs.Fields.{bytesAt}
+use Rattle.fields.specs.Fields.{bytesAt, nowhere}
 use Rattle.fields.proofs.Laws.Written.{further, getD-inside, bytesAt-inside}
 use Rattle.inner_header.specs.declared.Inner.{Inner}
 use Rattle.inner_header.specs.declared.Read.the-variants as read
@@ -42,7 +42,6 @@ use Rattle.inner_header.specs.declared.Attachment.{Attachment}
 use Rattle.inner_header.specs.declared.Attachment.the-variants as answer
 use Rattle.refusals.specs.declared.Written.the-variants as written
 use Rattle.inner_header.specs.InnerHeader.{
-  nowhere,
   Walked,
   Ended,
   Refused,

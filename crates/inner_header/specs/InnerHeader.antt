@@ -44,14 +44,8 @@ pub record Fields : Type 0 where
   pub key : Place
   pub attachments : List Place
 
-abbrev pub nowhere : Place
-nowhere = record { start = 0; length = 0 }
-
 abbrev pub noFields : Fields
 noFields = record { algorithm = nowhere; key = nowhere; attachments = [] }
-
-abbrev pub given : Place → Bool
-given p = not (eqb (p .start) 0)
 
 -- the listed IDs are 0 to 3
 abbrev pub listed : ℕ → Bool

@@ -31,7 +31,7 @@ use Rattle.refusals.specs.declared.Refusal.the-variants.{
 use Rattle.refusals.specs.declared.Outcome.{Outcome}
 use Rattle.refusals.specs.declared.Outcome.the-variants as outcome
 use Rattle.refusals.specs.Limits.{fileLimit}
-use Rattle.fields.specs.Fields.{bytesAt, endOf, fieldAt}
+use Rattle.fields.specs.Fields.{bytesAt, endOf, fieldAt, nowhere, given}
 use Rattle.fields.specs.declared.Place.{Place}
 use Rattle.fields.specs.declared.SizeRule.{SizeRule}
 use Rattle.fields.specs.declared.SizeRule.the-variants.{Any, Exactly}
@@ -60,9 +60,6 @@ unfoldable pub sizeRule : ℕ → SizeRule
 sizeRule id = cond (eqb id 0) (Exactly 4)
     (cond (eqb id 2) (Exactly 16) (cond (eqb id 3) (Exactly 4) (cond (eqb id 4) (Exactly 32) Any)))
 
-abbrev pub given : Place → Bool
-given p = not (eqb (p .start) 0)
-
 -- whether a field of the ID came before
 unfoldable pub seen : Fields → ℕ → Bool
 seen f id =
@@ -84,9 +81,6 @@ put f id p =
       kdf = cond (eqb id 11) p (f .kdf);
       custom = cond (eqb id 12) p (f .custom);
     }
-
-abbrev pub nowhere : Place
-nowhere = record { start = 0; length = 0 }
 
 unfoldable pub noFields : Fields
 noFields = record {

@@ -27,7 +27,7 @@ use Rattle.fields.specs.declared.Place.{Place}
 use Rattle.fields.specs.declared.SizeRule.the-variants.{AtLeast}
 use Rattle.fields.specs.declared.Field.{Field}
 use Rattle.fields.specs.declared.Field.the-variants as field
-use Rattle.fields.specs.Fields.{bytesAt, endOf, fits, fieldBytes}
+use Rattle.fields.specs.Fields.{bytesAt, endOf, fits, fieldBytes, nowhere}
 use Rattle.fields.proofs.Laws.Written.{
   length-fieldBytes,
   id-written,
@@ -38,17 +38,7 @@ use Rattle.fields.proofs.Laws.Written.{
   getD-inside,
   fieldAt-inside,
 }
-use Rattle.inner_header.specs.InnerHeader.{
-  Fields,
-  nowhere,
-  noFields,
-  listed,
-  ruleOf,
-  repeated,
-  fieldOf,
-  put,
-  Ended,
-}
+use Rattle.inner_header.specs.InnerHeader.{Fields, noFields, listed, ruleOf, repeated, fieldOf, put, Ended}
 use Rattle.inner_header.specs.Writer.{Run, Fine, Refused, runAt, before, runIn, runFrom, payloadBytes}
 use Rattle.inner_header.proofs.Laws.Walk.{from, walk-next, walk-end}
 use Rattle.inner_header.proofs.Laws.Run.{runAt-stands}

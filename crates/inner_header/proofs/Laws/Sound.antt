@@ -16,11 +16,10 @@ use Rattle.refusals.specs.Limits.{payloadLimit}
 use Rattle.fields.specs.declared.Place.{Place}
 use Rattle.fields.specs.declared.Field.{Field}
 use Rattle.fields.specs.declared.Field.the-variants as field
-use Rattle.fields.specs.Fields.{endOf, fits}
+use Rattle.fields.specs.Fields.{endOf, fits, nowhere}
 use Rattle.fields.proofs.Laws.Written.{fieldAt-passed}
 use Rattle.inner_header.specs.InnerHeader.{
   Fields,
-  nowhere,
   noFields,
   listed,
   ruleOf,

@@ -17,9 +17,8 @@ use borrow.Author.Tests.{le-leb}
 use Rattle.fields.specs.declared.Place.{Place}
 use Rattle.fields.specs.declared.SizeRule.the-variants.{AtLeast}
 use Rattle.fields.specs.declared.Field.the-variants as field
-use Rattle.fields.specs.Fields.{bytesAt, fits, fieldBytes}
+use Rattle.fields.specs.Fields.{bytesAt, fits, fieldBytes, nowhere}
 use Rattle.fields.proofs.Laws.Written.{length-fieldBytes, id-written, bytesAt-written, length-written, fieldAt-written}
-use Rattle.inner_header.specs.InnerHeader.{nowhere}
 use Rattle.inner_header.specs.Writer.{Fine, runAt, before, runIn, runFrom, run, runBytes}
 use Rattle.inner_header.proofs.Laws.Run.{runFrom-past, runFrom-more}
 

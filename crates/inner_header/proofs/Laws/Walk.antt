@@ -26,12 +26,11 @@ use Rattle.refusals.specs.declared.Refusal.the-variants.{CutShort}
 use Rattle.fields.specs.declared.Place.{Place}
 use Rattle.fields.specs.declared.Field.{Field}
 use Rattle.fields.specs.declared.Field.the-variants as field
-use Rattle.fields.specs.Fields.{endOf, fieldAt}
+use Rattle.fields.specs.Fields.{endOf, fieldAt, nowhere}
 use Rattle.fields.proofs.Laws.Fields.{Stands, fieldAt-stands}
 use Rattle.inner_header.specs.declared.Tally.{Tally}
 use Rattle.inner_header.specs.InnerHeader.{
   Fields,
-  nowhere,
   listed,
   ruleOf,
   repeated,

@@ -21,7 +21,7 @@ use Rattle.refusals.specs.declared.Refusal.{Refusal}
 use Rattle.refusals.specs.declared.Outcome.{Outcome}
 use Rattle.refusals.specs.declared.Outcome.the-variants as outcome
 use Rattle.refusals.specs.Limits.{fileLimit, roundsLimit}
-use Rattle.fields.specs.Fields.{bytesAt, endOf}
+use Rattle.fields.specs.Fields.{bytesAt, endOf, given}
 use Rattle.ciphers.specs.Ciphers.{cipherOf, nonceLength}
 use Rattle.ciphers.specs.declared.Cipher.{Cipher}
 use Rattle.ciphers.specs.declared.Identified.{Identified}
@@ -37,7 +37,6 @@ use Rattle.outer_header.specs.declared.walk.Walked.the-variants as walke
 use Rattle.outer_header.specs.declared.Header.{Header}
 use Rattle.outer_header.specs.declared.Reading.the-variants as read
 use Rattle.outer_header.specs.Kdbx4Header.{
-  given,
   noFields,
   walk,
   complete,

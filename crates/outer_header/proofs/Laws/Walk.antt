@@ -23,7 +23,7 @@ use Rattle.words.specs.Size.{int32}
 use Rattle.words.specs.declared.le.Size.{Size}
 use Rattle.words.specs.declared.le.Size.the-variants.{Of, Negative}
 use Rattle.words.proofs.Laws.Cases.{by-bool}
-use Rattle.fields.specs.Fields.{endOf, fits, valueAt, fieldAt}
+use Rattle.fields.specs.Fields.{endOf, fits, valueAt, fieldAt, given}
 use Rattle.fields.specs.declared.Place.{Place}
 use Rattle.fields.specs.declared.SizeRule.{SizeRule}
 use Rattle.fields.specs.declared.Field.{Field}
@@ -35,7 +35,6 @@ use Rattle.outer_header.specs.declared.walk.Walked.the-variants as walke
 use Rattle.outer_header.specs.Kdbx4Header.{
   listed,
   sizeRule,
-  given,
   seen,
   put,
   noFields,
