@@ -1,6 +1,6 @@
 -- Worked examples of dictionaries, as theorems by computation.
 --
--- In order: an empty dictionary, and faults of it; two items of one name; the KDF dictionary that is written.
+-- In order: an empty dictionary, and faults of it; two items of one name.
 -- Assumes nothing.
 use mathlib.Core.Path.{_≡_, refl}
 use mathlib.Core.List.{List, [], _∷_, _++_}
@@ -11,8 +11,18 @@ use Rattle.words.specs.Size.{int32}
 use Rattle.slices.specs.Same.{same}
 use Rattle.refusals.specs.declared.Refusal.the-variants.{BrokenDictionary, Repeated}
 use Rattle.refusals.specs.declared.Outcome.the-variants.{Accepted, Refused}
-use Rattle.dictionary.specs.Dictionary.{sizeFits, valueAt, nameAt, entryAt, namedIn, named, walkIn, walk, verdict}
-use Rattle.dictionary.specs.Kdf.{itemBytes, kdfBytes}
+use Rattle.dictionary.specs.Dictionary.{
+  sizeFits,
+  valueAt,
+  nameAt,
+  entryAt,
+  namedIn,
+  named,
+  walkIn,
+  walk,
+  verdict,
+  itemBytes,
+}
 
 -- the version and the last byte
 verdict-empty : verdict (0x00 ∷ 0x01 ∷ 0x00 ∷ []) ≡ Accepted
@@ -36,15 +46,3 @@ repeated = 0x00 ∷ 0x01 ∷ itemBytes 0x18 (0x41 ∷ []) [] ++ itemBytes 0x18 (
 verdict-repeated : verdict repeated ≡ Refused Repeated
 unfolding verdict walk walkIn named namedIn entryAt nameAt valueAt sizeFits same int32 le leBytes itemBytes
 verdict-repeated = refl
-
--- "KDF dictionary: 93" bytes, here with R = 1 and a seed of bytes 33
-abbrev kdf : List ℕ
-kdf = kdfBytes (replicate 32 0x33) 1
-
-length-kdf : length kdf ≡ 93
-unfolding kdfBytes itemBytes leBytes
-length-kdf = refl
-
-verdict-kdf : verdict kdf ≡ Accepted
-unfolding verdict walk walkIn named namedIn entryAt nameAt valueAt sizeFits same int32 le kdfBytes itemBytes leBytes
-verdict-kdf = refl

@@ -11,7 +11,6 @@
 --   Table    the numbers of a table's places
 --   Judge    the verdict, when some names are known
 --   Verdict  the verdict is the judgement that knows no name
---   Kdf      the KDF dictionary that is written is sound, and what is found in it
 pub mod Entry
 pub mod Walk
 pub mod Enough
@@ -22,4 +21,3 @@ pub mod Insert
 pub mod Table
 pub mod Judge
 pub mod Verdict
-pub mod Kdf

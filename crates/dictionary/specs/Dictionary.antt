@@ -1,7 +1,7 @@
 -- Variant dictionaries: document 01, "Header", the paragraph "A dictionary is ..".
 --
 --   "Types, in hexadecimal: 04 .. 42", "Sizes must fit the type"          sizeFits
---   "Item: type, name size, name, value size, value; sizes are Int32"     entryAt, nameOf, valueOf, next
+--   "Item: type, name size, name, value size, value; sizes are Int32"     entryAt, nameOf, valueOf, next, itemBytes
 --   "a 0 byte that must be its last"                                      entryAt
 --   "Names are compared as bytes", "a repeated name"                      named
 --   "a UInt16 version whose high byte must be 1", "Any fault is 10; a
@@ -13,7 +13,7 @@
 --   "shows that stretch of the dictionary itself .. with nothing shown"   shown, lookup
 -- A walk counts its items down from the dictionary's length: an item has nine bytes or more, so the count never ends it
 -- (proofs, Laws.Enough).
--- Not here: what a KDF dictionary needs; the KDF dictionary that is written (Kdf).
+-- Not here: what a KDF dictionary needs, and the one that is written (crate kdf_dictionary).
 -- Assumes nothing.
 use mathlib.Core.Bool.{Bool, true, false, cond}
 use mathlib.Core.List.{List, []}
@@ -135,3 +135,7 @@ shown s (found.Refused r) = []
 
 unfoldable pub lookup : List ℕ → List ℕ → List ℕ
 lookup s name = shown s (find s name)
+
+-- the bytes of an item that is written: type, name size, name, value size, value
+unfoldable pub itemBytes : ℕ → List ℕ → List ℕ → List ℕ
+itemBytes kind name value = kind ∷ leBytes 4 (length name) ++ name ++ leBytes 4 (length value) ++ value

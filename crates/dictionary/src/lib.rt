@@ -17,7 +17,6 @@ use refusals::Refusal;
 use repeats::Batch;
 use words::le::Size;
 
-pub mod kdf;
 mod repeats;
 mod table;
 

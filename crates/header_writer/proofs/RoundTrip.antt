@@ -24,10 +24,12 @@ use Rattle.fields.specs.Fields.{bytesAt, fits, fieldBytes, nowhere}
 use Rattle.fields.specs.declared.Place.{Place}
 use Rattle.ciphers.specs.Ciphers.{identifier, cipherOf, nonceLength}
 use Rattle.ciphers.specs.declared.Cipher.{Cipher}
-use Rattle.dictionary.specs.Kdf.{kdfBytes}
-use Rattle.dictionary.proofs.Laws.Kdf.{kdfBytes-seed-is}
+use Rattle.ciphers.proofs.Laws.{cipherOf-identifier, nonceLength-le}
+use Rattle.kdf_dictionary.specs.Kdf.{kdfBytes}
+use Rattle.kdf_dictionary.proofs.Laws.Kdf.{kdfBytes-seed-is}
 use Rattle.kdf_dictionary.specs.KdfDictionary.{kdfOf}
 use Rattle.kdf_dictionary.specs.declared.Reading.the-variants as kdf
+use Rattle.kdf_dictionary.proofs.Laws.ReadBack.{kdfOf-kdfBytes}
 use Rattle.outer_header.specs.declared.walk.Fields.{Fields}
 use Rattle.outer_header.specs.declared.walk.Walked.the-variants as walked
 use Rattle.outer_header.specs.declared.Reading.the-variants as read
@@ -50,7 +52,6 @@ use Rattle.header_writer.specs.declared.Checked.the-variants.{As}
 use Rattle.header_writer.proofs.Laws.Layout.{nonceLength-le, length-headerBytes}
 use Rattle.header_writer.proofs.Laws.CheckedLaws.{checked-as}
 use Rattle.header_writer.proofs.Laws.Lies.{bytesAt-lies, le-lies, walk-lies, walk-end}
-use Rattle.header_writer.proofs.Laws.Judged.{judged-is, cipherOf-identifier, kdfOf-kdfBytes}
 use Rattle.header_writer.proofs.Laws.Places.{HasFields, header-fields}
 
 -- the places of the fields, with the custom dictionary at p

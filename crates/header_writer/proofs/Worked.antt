@@ -18,9 +18,9 @@ use Rattle.refusals.specs.Limits.{roundsLimit}
 use Rattle.fields.specs.Fields.{fieldBytes}
 use Rattle.ciphers.specs.Ciphers.{identifier, cipherOf, nonceLength}
 use Rattle.ciphers.specs.declared.Cipher.the-variants.{Aes256, ChaCha20}
-use Rattle.dictionary.specs.Dictionary.{entryAt, walkIn, walk, verdict}
-use Rattle.dictionary.specs.Kdf.{itemBytes, kdfBytes}
-use Rattle.dictionary.proofs.Laws.Kdf.{length-kdfBytes}
+use Rattle.dictionary.specs.Dictionary.{entryAt, walkIn, walk, verdict, itemBytes}
+use Rattle.kdf_dictionary.specs.Kdf.{kdfBytes}
+use Rattle.kdf_dictionary.proofs.Laws.Kdf.{length-kdfBytes}
 use Rattle.header_writer.specs.Written.{
   versionBytes,
   customField,

@@ -24,7 +24,7 @@ use Rattle.ciphers.specs.declared.Cipher.{Cipher}
 use Rattle.ciphers.specs.declared.Identified.{Identified}
 use Rattle.ciphers.specs.declared.Identified.the-variants as identified
 use Rattle.dictionary.specs.Dictionary.{verdict}
-use Rattle.dictionary.specs.Kdf.{kdfBytes}
+use Rattle.kdf_dictionary.specs.Kdf.{kdfBytes}
 use Rattle.header_writer.specs.declared.Checked.{Checked}
 use Rattle.header_writer.specs.declared.Checked.the-variants.{As, Refused}
 

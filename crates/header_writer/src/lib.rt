@@ -142,7 +142,7 @@ pub fn write(
     ensures { λ _. ⌜ now (out .exit) ≡ laid (written.headerBytes minor c seed (take 16 (now (nonce .entry))) «kdf_seed» rounds (now (custom .entry))) (now (out .entry)) ⌝ }
 {
     let n = slices::part(nonce, 0, 16);
-    let kdf = dictionary::kdf::write_kdf(kdf_seed, rounds);
+    let kdf = kdf_dictionary::writer::write_kdf(kdf_seed, rounds);
     let at = 84 + n.len();
     write_front(minor, c, seed, out);
     fields::put(out, 79, 7, n);

@@ -6,7 +6,7 @@
 --   "Any fault is 10; .. 6", before all that                                                 kdfIn, kdfOf
 -- "Other items are allowed." The items are looked at in the order `$UUID`, `S`, `R`.
 -- Places are those of the file: `p` is where the dictionary stands in it.
--- Not here: dictionaries themselves, and the one that is written (crate dictionary).
+-- Not here: dictionaries themselves (crate dictionary), the one that is written (Kdf).
 -- Assumes nothing.
 use mathlib.Core.Bool.{cond}
 use mathlib.Core.List.{List}
@@ -22,7 +22,7 @@ use Rattle.refusals.specs.Limits.{roundsLimit}
 use Rattle.fields.specs.Fields.{bytesAt}
 use Rattle.fields.specs.declared.Place.{Place}
 use Rattle.dictionary.specs.Dictionary.{verdict, searchFrom}
-use Rattle.dictionary.specs.Kdf.{aesKdfUuid, uuidName, seedName, roundsName}
+use Rattle.kdf_dictionary.specs.Kdf.{aesKdfUuid, uuidName, seedName, roundsName}
 use Rattle.dictionary.specs.declared.Found.{Found}
 use Rattle.dictionary.specs.declared.Found.the-variants as found
 use Rattle.kdf_dictionary.specs.declared.Reading.{Reading}

@@ -1,19 +1,21 @@
-// The KDF dictionary of an outer header (document 01, "Header"): what it asks for.
+// The KDF dictionary of an outer header (document 01, "Header"): what it asks for. Writing is `writer`.
 //
 // The contracts cite specs/KdfDictionary. Refusals: 10 and 6 for the dictionary itself, then 10, 9 and 11 for its
 // items.
 ghost use mathlib.Core.Path.{_≡_};
 ghost use Prim.Native.Nat.{_+_, _^_, _<_};
 ghost use lib.ListN.{length};
-ghost use Rattle.dictionary.specs.Kdf.{uuidName, seedName, roundsName};
+ghost use Rattle.kdf_dictionary.specs.Kdf.{uuidName, seedName, roundsName};
 ghost use Rattle.kdf_dictionary.specs.KdfDictionary as kdbx4;
 use dictionary::Found;
 use fields::Place;
 use refusals::Outcome;
 use refusals::Refusal;
 
+pub mod writer;
+
 // The identifier of AES-KDF.
-const AES_KDF: [u8; 16] = [
+pub(crate) const AES_KDF: [u8; 16] = [
     0xC9,
     0xD9,
     0xF3,

@@ -17,7 +17,8 @@ use Rattle.fields.specs.Fields.{fits, valueAt, fieldAt, fieldBytes}
 use Rattle.ciphers.specs.Ciphers.{identifier, cipherOf, nonceLength}
 use Rattle.ciphers.specs.declared.Cipher.the-variants.{ChaCha20}
 use Rattle.dictionary.specs.Dictionary as dictionary
-use Rattle.dictionary.specs.Kdf.{itemBytes, kdfBytes}
+use Rattle.dictionary.specs.Dictionary.{itemBytes}
+use Rattle.kdf_dictionary.specs.Kdf.{kdfBytes}
 use Rattle.kdf_dictionary.specs.KdfDictionary.{roundsIn, seedIn, uuidIn, kdfIn, kdfOf}
 use Rattle.outer_header.specs.Kdbx4Header as kdbx4
 use Rattle.outer_header.specs.Frames.{fieldFrames, frames}

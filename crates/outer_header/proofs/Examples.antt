@@ -25,8 +25,9 @@ use Rattle.fields.specs.declared.Field.the-variants as field
 use Rattle.ciphers.specs.Ciphers.{identifier, cipherOf, nonceLength}
 use Rattle.ciphers.specs.declared.Cipher.the-variants.{ChaCha20}
 use Rattle.dictionary.specs.Dictionary as dictionary
-use Rattle.dictionary.specs.Kdf.{itemBytes, kdfBytes}
+use Rattle.kdf_dictionary.specs.Kdf.{kdfBytes}
 use Rattle.dictionary.specs.declared.Found.the-variants as found
+use Rattle.dictionary.specs.Dictionary.{itemBytes}
 use Rattle.kdf_dictionary.specs.KdfDictionary.{roundsIn, seedIn, uuidIn, kdfIn, kdfOf}
 use Rattle.kdf_dictionary.specs.declared.Reading.the-variants as kdf
 use Rattle.outer_header.specs.declared.walk.Fields.{Fields}

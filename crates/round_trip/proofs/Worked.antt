@@ -12,7 +12,7 @@ use Rattle.refusals.specs.Limits.{writtenBlock}
 use Rattle.ciphers.specs.Ciphers.{nonceLength}
 use Rattle.ciphers.specs.declared.Cipher.{Cipher}
 use Rattle.ciphers.specs.declared.Cipher.the-variants.{Aes256, ChaCha20}
-use Rattle.dictionary.proofs.Laws.Kdf.{length-kdfBytes}
+use Rattle.kdf_dictionary.proofs.Laws.Kdf.{length-kdfBytes}
 use Rattle.stream.proofs.Laws.Apply.{length-apply}
 use Rattle.outer_header.proofs.Examples.{header-short, custom-negative, custom-long, rounds-most, rounds-more}
 use Rattle.header_writer.specs.Written.{headerLength}

@@ -14,7 +14,7 @@ use Rattle.ciphers.specs.declared.Cipher.{Cipher}
 use Rattle.ciphers.specs.declared.Cipher.the-variants.{Aes256, ChaCha20}
 use Rattle.fields.specs.declared.Place.{Place}
 use Rattle.fields.specs.declared.Field.the-variants as field
-use Rattle.dictionary.specs.Kdf.{kdfBytes}
+use Rattle.kdf_dictionary.specs.Kdf.{kdfBytes}
 use Rattle.dictionary.specs.declared.Found.the-variants as found
 use Rattle.kdf_dictionary.specs.KdfDictionary.{roundsIn}
 use Rattle.kdf_dictionary.specs.declared.Reading.the-variants as kdf

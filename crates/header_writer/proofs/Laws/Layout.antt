@@ -22,9 +22,9 @@ use Rattle.fields.specs.Fields.{fieldBytes}
 use Rattle.fields.proofs.Laws.Written.{length-fieldBytes}
 use Rattle.ciphers.specs.Ciphers.{identifier, nonceLength}
 use Rattle.ciphers.specs.declared.Cipher.{Cipher}
-use Rattle.ciphers.specs.declared.Cipher.the-variants.{Aes256, ChaCha20}
-use Rattle.dictionary.specs.Kdf.{kdfBytes}
-use Rattle.dictionary.proofs.Laws.Kdf.{length-kdfBytes}
+use Rattle.ciphers.proofs.Laws.{length-identifier}
+use Rattle.kdf_dictionary.specs.Kdf.{kdfBytes}
+use Rattle.kdf_dictionary.proofs.Laws.Kdf.{length-kdfBytes}
 use Rattle.header_writer.specs.Written.{
   versionBytes,
   endBytes,

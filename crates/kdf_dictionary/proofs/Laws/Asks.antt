@@ -21,7 +21,7 @@ use Rattle.refusals.specs.Limits.{roundsLimit}
 use Rattle.fields.specs.Fields.{bytesAt, endOf}
 use Rattle.fields.specs.declared.Place.{Place}
 use Rattle.dictionary.specs.Dictionary.{verdict}
-use Rattle.dictionary.specs.Kdf.{aesKdfUuid, uuidName, seedName, roundsName}
+use Rattle.kdf_dictionary.specs.Kdf.{aesKdfUuid, uuidName, seedName, roundsName}
 use Rattle.dictionary.specs.declared.Found.{Found}
 use Rattle.dictionary.specs.declared.Found.the-variants as found
 use Rattle.dictionary.proofs.Laws.Find.{searchFrom-within}

@@ -4,7 +4,7 @@ use mathlib.Core.Path.{sym, _∙_}
 use denote.Ref.{now}
 use lib.ListN.{length}
 use borrow.Author.Tests.{eq-eqb, ne-eqb}
-use Rattle.dictionary.specs.Kdf.{seedName}
+use Rattle.kdf_dictionary.specs.Kdf.{seedName}
 use Rattle.dictionary.proofs.Laws.Find.{searchFrom-within}
 use Rattle.kdf_dictionary.specs.KdfDictionary.{seedIn}
 use borrow.Author.Needs.{needs}

@@ -1,35 +1,26 @@
--- The reader's checks after the end field, passed by what is written.
+-- The KDF dictionary that is written asks for its seed and its rounds: kdfOf-kdfBytes.
 --
--- In order:
---   judged-is           who passes them all is accepted
---   cipherOf-identifier
---   kdfOf-kdfBytes      the KDF dictionary that is written asks for its seed and its rounds
--- Not here: what an accepted header keeps to (crate outer_header, Laws.Accepted).
+-- Not here: that it is sound, and what is found in it (Kdf).
 -- Assumes nothing.
-use mathlib.Core.Path.{_≡_, refl, sym, ap, _∙_}
-use mathlib.Core.Bool.{true}
+use mathlib.Core.Path.{_≡_, sym, ap, _∙_}
 use mathlib.Core.List.{List}
 use Prim.Native.Nat.{ℕ, _+_, _%_, _^_, _≤_}
 use native.Mathlib.Omega.{arith}
 use lib.ListN.{length, drop}
-use borrow.Author.Tests.{eq-eqb, le-leb}
+use borrow.Author.Tests.{le-leb}
 use Rattle.words.specs.Endian.{le}
 use Rattle.words.proofs.Laws.Endian.{le-drop, le-take, le-leBytes}
-use Rattle.slices.specs.Same.{same}
 use Rattle.slices.proofs.Laws.Same.{same-refl}
-use Rattle.refusals.specs.declared.Outcome.the-variants as outcome
 use Rattle.refusals.specs.Limits.{roundsLimit}
 use Rattle.fields.specs.Fields.{bytesAt}
 use Rattle.fields.specs.declared.Place.{Place}
-use Rattle.ciphers.specs.Ciphers.{identifier, cipherOf, nonceLength}
-use Rattle.ciphers.specs.declared.Cipher.{Cipher}
-use Rattle.ciphers.specs.declared.Cipher.the-variants.{Aes256, ChaCha20}
-use Rattle.ciphers.specs.declared.Identified.the-variants.{As}
 use Rattle.dictionary.specs.Dictionary.{verdict, find}
-use Rattle.dictionary.specs.Kdf.{aesKdfUuid, uuidName, seedName, roundsName, kdfBytes}
 use Rattle.dictionary.specs.declared.Found.the-variants as found
 use Rattle.dictionary.proofs.Laws.Find.{find-accepted}
-use Rattle.dictionary.proofs.Laws.Kdf.{
+use Rattle.kdf_dictionary.specs.Kdf.{aesKdfUuid, uuidName, seedName, roundsName, kdfBytes}
+use Rattle.kdf_dictionary.specs.KdfDictionary.{itemOf, roundsIn, seedIn, uuidIn, kdfIn, kdfOf}
+use Rattle.kdf_dictionary.specs.declared.Reading.the-variants as kdf
+use Rattle.kdf_dictionary.proofs.Laws.Kdf.{
   verdict-kdfBytes,
   find-kdfBytes-uuid,
   find-kdfBytes-rounds,
@@ -37,29 +28,6 @@ use Rattle.dictionary.proofs.Laws.Kdf.{
   kdfBytes-uuid-is,
   kdfBytes-rounds-is,
 }
-use Rattle.kdf_dictionary.specs.KdfDictionary.{itemOf, roundsIn, seedIn, uuidIn, kdfIn, kdfOf}
-use Rattle.kdf_dictionary.specs.declared.AesKdf.{AesKdf}
-use Rattle.kdf_dictionary.specs.declared.Reading.the-variants as kdf
-use Rattle.outer_header.specs.declared.walk.Fields.{Fields}
-use Rattle.outer_header.specs.declared.Reading.the-variants as read
-use Rattle.outer_header.specs.Kdbx4Header.{complete, customOf, figuresIn, figures, identified, judged}
-use Rattle.outer_header.proofs.Laws.Accepted.{headerOf}
-
-pub judged-is : (s : List ℕ) (f : Fields) (minor end : ℕ) (c : Cipher) (k : AesKdf) → complete f ≡ true
-    → cipherOf (bytesAt s (f .cipher)) ≡ As c
-    → le 4 s (f .compression .start) ≡ 0
-    → f .nonce .length ≡ nonceLength c
-    → kdfOf s (f .kdf) ≡ kdf.Asks k
-    → customOf s (f .custom) ≡ outcome.Accepted
-    → judged s f minor end ≡ read.Header (headerOf f minor end c k)
-unfolding judged identified figures figuresIn
-judged-is s f minor end c k t u v w x y =
-    rw (t, u, eq-eqb (le 4 s (f .compression .start)) 0 v, eq-eqb (f .nonce .length) (nonceLength c) w, x, y)
-
-pub cipherOf-identifier : (c : Cipher) → cipherOf (identifier c) ≡ As c
-unfolding cipherOf identifier same
-cipherOf-identifier Aes256 = refl
-cipherOf-identifier ChaCha20 = refl
 
 -- an item that is found in a sound dictionary
 item-found : (d name : List ℕ) (kind start n : ℕ) → find d name ≡ found.At kind start n

@@ -9,7 +9,7 @@
 --   kdfBytes-uuid-is, kdfBytes-rounds-is, kdfBytes-seed-is
 --                         the values at those places
 -- Each is computed over a seed of 32 bytes that are not known.
--- Not here: reading in general (Entry, Walk).
+-- Not here: dictionaries in general (crate dictionary); what it asks for (ReadBack).
 -- Assumes nothing.
 use mathlib.Core.Path.{_≡_, refl, ap₂, subst}
 use mathlib.Core.List.{List, [], _∷_, _++_}
@@ -37,8 +37,9 @@ use Rattle.dictionary.specs.Dictionary.{
   searchFrom,
   findIn,
   find,
+  itemBytes,
 }
-use Rattle.dictionary.specs.Kdf.{itemBytes, aesKdfUuid, uuidName, roundsName, seedName, kdfBytes}
+use Rattle.kdf_dictionary.specs.Kdf.{aesKdfUuid, uuidName, roundsName, seedName, kdfBytes}
 
 -- the first n entries of a list, one by one
 abbrev entries : ℕ → List ℕ → List ℕ

@@ -1,18 +1,13 @@
 -- The KDF dictionary that is written: document 01, "Header" and "File after the header".
 --
---   "Item: type, name size, name, value size, value; sizes are Int32"    itemBytes
---   "AES-KDF is C9D9F39A628A4460BF740D08C18A4FEA"                        aesKdfUuid
---   "0x0100 is written", "KDF items `$UUID`, `R`, `S`"                   kdfBytes
--- Not here: reading (Dictionary).
+--   "AES-KDF is C9D9F39A628A4460BF740D08C18A4FEA"         aesKdfUuid
+--   "0x0100 is written", "KDF items `$UUID`, `R`, `S`"    kdfBytes
+-- Not here: an item's bytes (crate dictionary), reading (KdfDictionary).
 -- Assumes nothing.
 use mathlib.Core.List.{List, [], _∷_, _++_}
 use Prim.Native.Nat.{ℕ}
-use lib.ListN.{length}
 use Rattle.words.specs.Endian.{leBytes}
-
--- type, name size, name, value size, value
-unfoldable pub itemBytes : ℕ → List ℕ → List ℕ → List ℕ
-itemBytes kind name value = kind ∷ leBytes 4 (length name) ++ name ++ leBytes 4 (length value) ++ value
+use Rattle.dictionary.specs.Dictionary.{itemBytes}
 
 abbrev pub aesKdfUuid : List ℕ
 aesKdfUuid =

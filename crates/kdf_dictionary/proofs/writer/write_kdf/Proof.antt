@@ -1,4 +1,4 @@
--- `dictionary::kdf::write_kdf` meets its contract. Assumes nothing.
+-- `kdf_dictionary::writer::write_kdf` meets its contract. Assumes nothing.
 use mathlib.Core.Path.{_≡_, refl, ap, _∙_}
 use mathlib.Core.List.{List, _++_}
 use Prim.Native.Nat.{ℕ}
@@ -6,10 +6,10 @@ use native.Mathlib.Omega.{arith}
 use lib.ListN.{length, take, replicate}
 use Rattle.slices.specs.Over.{over}
 use Rattle.slices.proofs.Laws.Over.{over-behind-fits}
-use Rattle.dictionary.proofs.Laws.Kdf.{length-kdfBytes, kdfBytes-seed}
+use Rattle.kdf_dictionary.proofs.Laws.Kdf.{length-kdfBytes, kdfBytes-seed}
 use borrow.Author.Needs.{needs}
-use Rattle.dictionary.proofs.kdf.write_kdf.Statement.{statement}
-use Rattle.dictionary.proofs.kdf.write_kdf.Tie as tie
+use Rattle.kdf_dictionary.proofs.writer.write_kdf.Statement.{statement}
+use Rattle.kdf_dictionary.proofs.writer.write_kdf.Tie as tie
 
 long-seed : (c : tie.Start) → length (c .args .t1) ≡ 32
 long-seed c = search needs

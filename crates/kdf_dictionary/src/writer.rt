@@ -1,9 +1,10 @@
-// The KDF dictionary that is written (document 01: KDF items `$UUID`, `R`, `S`). The contract cites specs/Kdf.
+// The KDF dictionary that is written (document 01: KDF items `$UUID`, `R`, `S`). The contracts cite specs/Kdf.
 ghost use mathlib.Core.Path.{_≡_};
 ghost use lib.ListN.{replicate};
-ghost use Rattle.dictionary.specs.Kdf as kdf;
+ghost use Rattle.kdf_dictionary.specs.Kdf as kdf;
+use crate::AES_KDF;
 
-// The dictionary of AES-KDF, with zeros for the rounds (from place 42 on) and the seed (from place 60 on).
+// The dictionary of AES-KDF, with zeros for the identifier (from place 16 on), the rounds (42) and the seed (60).
 const WITHOUT_VALUES: [u8; 93] = [
     0x00,
     0x01,
@@ -21,22 +22,22 @@ const WITHOUT_VALUES: [u8; 93] = [
     0x00,
     0x00,
     0x00,
-    0xC9,
-    0xD9,
-    0xF3,
-    0x9A,
-    0x62,
-    0x8A,
-    0x44,
-    0x60,
-    0xBF,
-    0x74,
-    0x0D,
-    0x08,
-    0xC1,
-    0x8A,
-    0x4F,
-    0xEA,
+    0x00,
+    0x00,
+    0x00,
+    0x00,
+    0x00,
+    0x00,
+    0x00,
+    0x00,
+    0x00,
+    0x00,
+    0x00,
+    0x00,
+    0x00,
+    0x00,
+    0x00,
+    0x00,
     0x05,
     0x01,
     0x00,
@@ -100,12 +101,22 @@ const WITHOUT_VALUES: [u8; 93] = [
     0x00,
 ];
 
+// The KDF dictionary of no rounds, with a seed of zeros.
+fn with_identifier() -> [u8; 93]
+    ensures { λ r. ⌜ r ≡ kdf.kdfBytes (replicate 32 0) 0 ⌝ }
+{
+    let id = AES_KDF;
+    let mut out = WITHOUT_VALUES;
+    slices::copy(&mut out[16..], &id);
+    out
+}
+
 // The KDF dictionary of a number of rounds, with a seed of zeros.
 fn with_rounds(rounds: u64) -> [u8; 93]
     ensures { λ r. ⌜ r ≡ kdf.kdfBytes (replicate 32 0) rounds ⌝ }
 {
     let r = words::le::bytes64(rounds);
-    let mut out = WITHOUT_VALUES;
+    let mut out = with_identifier();
     slices::copy(&mut out[42..], &r);
     out
 }
