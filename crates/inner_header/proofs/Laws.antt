@@ -5,7 +5,7 @@
 --   Sound     every attachment has its flags byte, within the payload
 --   Opened    the answers, by what is kept of the fields
 --   Run       the walk over a run of attachments
---   Laid      bytes laid one behind the other into a lent output
+--   Laid      a payload as code lays it, one part behind the other
 --   Planned   what a payload that is written passed
 --   Payload   the walk over a payload that is written
 --   Values    a run that is made of attachments' values

@@ -15,9 +15,8 @@ use mathlib.Core.Bool.{false, cond}
 use mathlib.Core.List.{List, [], _∷_, _++_}
 use Prim.Native.Nat.{ℕ, zero, suc, _+_}
 use lib.Dec.{eqb, leb}
-use lib.ListN.{length, getD, take}
+use lib.ListN.{length, getD}
 use Rattle.words.specs.Endian.{leBytes}
-use Rattle.slices.specs.Over.{over}
 use Rattle.refusals.specs.declared.Refusal.{Refusal}
 use Rattle.refusals.specs.declared.Refusal.the-variants.{TooLong, NoRoom, Unlisted}
 use Rattle.refusals.specs.declared.Outcome.{Outcome}
@@ -74,10 +73,6 @@ payloadBytes algorithm key attachments document =
 -- how many bytes that are, of a key, a run and a document of so many
 abbrev pub payloadLength : ℕ → ℕ → ℕ → ℕ
 payloadLength key attachments document = 19 + key + attachments + document
-
--- a lent output with bytes laid into it from `at` on
-abbrev pub laid : ℕ → List ℕ → List ℕ → List ℕ
-laid at b d = over (take at d ++ b) d
 
 -- payload length (1), room (17)
 unfoldable pub sized : ℕ → ℕ → Written

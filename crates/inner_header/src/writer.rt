@@ -5,10 +5,9 @@
 // The contracts cite specs/Writer. Refusals: 9; of each field of the run 2, 7, 5, 2; 1; 17. Nothing is written before
 // all are settled.
 ghost use mathlib.Core.Path.{_≡_};
-ghost use Prim.Native.Nat.{_+_, _≤_, _<_, _^_};
+ghost use Prim.Native.Nat.{_+_, _≤_, _<_};
 ghost use lib.ListN.{length};
 ghost use Rattle.slices.specs.Over.{over};
-ghost use Rattle.fields.specs.Fields.{fieldBytes};
 ghost use Rattle.inner_header.specs.Writer as kdbx4;
 use crate::is_algorithm;
 use fields::Field;
@@ -80,40 +79,19 @@ fn plan(algorithm: u32, key: usize, run: &[u8], document: usize, room: usize) ->
     Written::Refused(Refusal::Unlisted)
 }
 
-// Lays bytes into the lent output from a place on.
-fn lay_bytes(out: &mut [u8], at: usize, b: &[u8])
-    requires { ⌜ at + length (now b) ≤ length (now out) ⌝ }
-    ensures { λ _. ⌜ now (out .exit) ≡ kdbx4.laid at (now (b .entry)) (now (out .entry)) ⌝ }
-{
-    slices::copy(&mut out[at..], b);
-}
-
-// Lays a field into the lent output from a place on.
-fn lay_field(out: &mut [u8], at: usize, id: u8, value: &[u8])
-    requires { ⌜ at + 5 + length (now value) ≤ length (now out) ⌝ }
-    requires { ⌜ length (now value) < 2 ^ 31 ⌝ }
-    ensures { λ _. ⌜ now (out .exit) ≡ kdbx4.laid at (fieldBytes id (now (value .entry))) (now (out .entry)) ⌝ }
-{
-    let size = words::le::bytes32(value.len() as u32);
-    let head = [id, size[0], size[1], size[2], size[3]];
-    lay_bytes(out, at, &head);
-    lay_bytes(out, at + 5, value);
-}
-
 // Lays a payload over the front of the lent output.
 fn lay(algorithm: u32, key: &[u8], run: &[u8], document: &[u8], out: &mut [u8])
     requires { ⌜ kdbx4.payloadLength (length (now key)) (length (now run)) (length (now document)) ≤ length (now out) ⌝ }
-    requires { ⌜ length (now key) < 2 ^ 31 ⌝ }
     ensures { λ _. ⌜ now (out .exit) ≡ over (kdbx4.payloadBytes algorithm (now (key .entry)) (now (run .entry)) (now (document .entry))) (now (out .entry)) ⌝ }
 {
     let number = words::le::bytes32(algorithm);
-    lay_field(out, 0, 1, &number);
-    lay_field(out, 9, 2, key);
     let at = 14 + key.len();
-    lay_bytes(out, at, run);
-    let end = [0, 0, 0, 0, 0];
-    lay_bytes(out, at + run.len(), &end);
-    lay_bytes(out, at + run.len() + 5, document);
+    let end = [0u8; 5];
+    fields::put(out, 0, 1, &number);
+    fields::put(out, 9, 2, key);
+    slices::put(out, at, run);
+    slices::put(out, at + run.len(), &end);
+    slices::put(out, at + run.len() + 5, document);
 }
 
 // Writes an inner header of an algorithm, a key and a run of attachments, and the document behind it.

@@ -23,18 +23,20 @@ returns c =
     let e₂ = e₃ .before .before .before .before in
     let e₁ = e₂ .before .before .before .before in
     let n = e₁ .before .before .before in
-    let a = n .before .before .before .before .before .args in
+    let st = n .before .before .before .before .before in
+    let a = st .args in
     laid-payload (a .algorithm) (now (a .key)) (now (a .run)) (now (a .document)) (n .bytes32 .result)
     (0 ∷ 0 ∷ 0 ∷ 0 ∷ 0 ∷ [])
     (now (a .out))
     (n .bytes32 .ensures)
     ends
+    (st .pre)
     _ _ _ _ _
-    (e₁ .lay-field .ensures)
-    (e₂ .lay-field2 .ensures)
-    (e₃ .lay-bytes .ensures)
-    (e₄ .lay-bytes2 .ensures)
-    (e₅ .lay-bytes3 .ensures)
+    (e₁ .put .ensures)
+    (e₂ .put2 .ensures)
+    (e₃ .put3 .ensures)
+    (e₄ .put4 .ensures)
+    (e₅ .put5 .ensures)
 
 pub lay-spec : {M : Type 1} → statement M
 lay-spec =
@@ -42,9 +44,9 @@ lay-spec =
     (tie.spec
     (λ c κs. search needs)
     (λ c. search needs)
-    (λ c κs. search needs)
-    (λ c κs. search needs)
     (λ c. search needs)
+    (λ c κs. search needs)
+    (λ c κs. search needs)
     (λ c κs. search needs)
     (λ c. search needs)
     (λ c. search needs)

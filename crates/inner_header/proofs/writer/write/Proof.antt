@@ -4,7 +4,6 @@ use native.Mathlib.Omega.{arith}
 use denote.Ref.{now}
 use lib.ListN.{length}
 use Rattle.slices.proofs.Laws.Over.{over-nil}
-use Rattle.refusals.proofs.Laws.Limits.{payload-size}
 use Rattle.inner_header.specs.Writer.{writing, due, writtenBytes}
 use Rattle.inner_header.proofs.Laws.Planned.{planned-wrote}
 use borrow.Author.Needs.{needs}
@@ -29,7 +28,6 @@ lay-requires c κs =
     (length (now (a .out)))
     (g .0 .0)
     (sym (p .plan .ensures) ∙ g .1) in
-    let z = payload-size in
     search needs
 
 returns-2 : tie.Need-returns-2
