@@ -11,7 +11,7 @@
 --    reader's numbers", "flags byte (any value) and content"                   attachment, shown
 -- A walk counts its fields down from the payload's length: a field has five bytes or more, so the count never ends it
 -- (proofs, Laws.Walk). A field that is absent has the place 0, where no field's value stands.
--- Not here: a field at a place (crate fields); what is written (Writer).
+-- Not here: a field at a place (crate fields); what the code keeps of the fields (Tally); what is written (Writer).
 -- Assumes nothing.
 use mathlib.Core.Bool.{Bool, false, cond, not, _||_}
 use mathlib.Core.List.{List, [], _∷_, _++_}
@@ -29,10 +29,7 @@ use Rattle.fields.specs.declared.SizeRule.{SizeRule}
 use Rattle.fields.specs.declared.SizeRule.the-variants.{Any, Exactly, AtLeast}
 use Rattle.fields.specs.declared.Field.{Field}
 use Rattle.fields.specs.declared.Field.the-variants as field
-use Rattle.fields.specs.Fields.{endOf, fieldAt}
-use Rattle.inner_header.specs.declared.Tally.{Tally}
-use Rattle.inner_header.specs.declared.Counted.{Counted}
-use Rattle.inner_header.specs.declared.Counted.the-variants as counted
+use Rattle.fields.specs.Fields.{endOf, fieldAt, nowhere, given}
 use Rattle.inner_header.specs.declared.Read.{Read}
 use Rattle.inner_header.specs.declared.Read.the-variants as read
 use Rattle.inner_header.specs.declared.Attachment.{Attachment}
@@ -136,27 +133,3 @@ attachmentOf s i (Ended f end) =
 
 unfoldable pub attachment : List ℕ → ℕ → Attachment
 attachment s i = attachmentOf s i (opened s)
-
--- what the code keeps of the fields: of the attachments their number, and the place of the one that is asked for
-abbrev pub tallyOf : ℕ → Fields → Tally
-tallyOf i f =
-    record {
-      algorithm = f .algorithm;
-      key = f .key;
-      attachments = length (f .attachments);
-      asked = getD (f .attachments) i nowhere;
-    }
-
-unfoldable pub tallied : ℕ → Walked → Counted
-tallied i (Ended f end) = counted.Ended (tallyOf i f) end
-tallied i (Refused r) = counted.Refused r
-
--- .. with one field more
-unfoldable pub putTally : Tally → ℕ → ℕ → Place → Tally
-putTally t i id p =
-    record {
-      algorithm = cond (eqb id 1) p (t .algorithm);
-      key = cond (eqb id 2) p (t .key);
-      attachments = cond (eqb id 3) (t .attachments + 1) (t .attachments);
-      asked = cond (eqb id 3) (cond (eqb (t .attachments) i) p (t .asked)) (t .asked);
-    }

@@ -1,3 +1,4 @@
 pub mod Answers
 pub mod InnerHeader
+pub mod Tally
 pub mod Writer

@@ -3,13 +3,14 @@
 //
 //   ID, size, value | ID, size, value | … | 00, 0 | document
 //
-// The contracts cite specs/InnerHeader. Values are told by their places in the payload, and nothing is copied. Fields
-// may come in any order. Refusals: 1; of each field 2, 7, 6, 5, 2; 8, 9; and 8 for an attachment index past the last.
-// Each operation walks over the fields once.
+// The contracts cite specs/InnerHeader, and specs/Tally for what is kept of the fields. Values are told by their places in the
+// payload, and nothing is copied. Fields may come in any order. Refusals: 1; of each field 2, 7, 6, 5, 2; 8, 9; and 8 for an
+// attachment index past the last. Each operation walks over the fields once.
 ghost use mathlib.Core.Path.{_≡_};
 ghost use Prim.Native.Nat.{_<_};
 ghost use lib.ListN.{length};
 ghost use Rattle.inner_header.specs.InnerHeader as kdbx4;
+ghost use Rattle.inner_header.specs.Tally as tally;
 use fields::Field;
 use fields::Place;
 use fields::SizeRule;
@@ -93,7 +94,7 @@ fn field_of(t: Tally, s: &[u8], at: usize) -> Field
 // What is kept, with one field more. The attachment of the index is kept when it is met.
 fn put(t: Tally, index: usize, id: u8, p: Place) -> Tally
     requires { ⌜ t .attachments < 0xFFFF_FFFF_FFFF_FFFF ⌝ }
-    ensures { λ r. ⌜ r ≡ kdbx4.putTally t index id p ⌝ }
+    ensures { λ r. ⌜ r ≡ tally.putTally t index id p ⌝ }
 {
     let mut u = t;
     if id == 1 {
@@ -117,7 +118,7 @@ fn put(t: Tally, index: usize, id: u8, p: Place) -> Tally
 
 // All fields up to the end field, with the attachment of the index.
 fn walk(s: &[u8], index: usize) -> Counted
-    ensures { λ r. ⌜ r ≡ kdbx4.tallied index (kdbx4.walk (length (now (s .entry))) kdbx4.noFields (now (s .entry)) 0) ⌝ }
+    ensures { λ r. ⌜ r ≡ tally.tallied index (kdbx4.walk (length (now (s .entry))) kdbx4.noFields (now (s .entry)) 0) ⌝ }
 {
     let mut t = Tally {
         algorithm: Place {
@@ -182,7 +183,7 @@ fn fault(s: &[u8], t: Tally) -> Outcome
 
 // All the reader's checks, with the attachment of the index.
 fn judge(s: &[u8], index: usize) -> Counted
-    ensures { λ r. ⌜ r ≡ kdbx4.tallied index (kdbx4.opened (now (s .entry))) ⌝ }
+    ensures { λ r. ⌜ r ≡ tally.tallied index (kdbx4.opened (now (s .entry))) ⌝ }
 {
     if refusals::limits::payload_fits(s.len()) {
         match walk(s, index) {

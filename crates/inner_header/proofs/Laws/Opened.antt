@@ -32,9 +32,8 @@ use Rattle.inner_header.specs.InnerHeader.{
   innerOf,
   shown,
   attachmentOf,
-  tallyOf,
-  tallied,
 }
+use Rattle.inner_header.specs.Tally.{tallyOf, tallied}
 use Rattle.inner_header.proofs.Laws.Sound.{Within, opened-sound}
 
 module _ (i : ℕ) (s : List ℕ) where

@@ -41,9 +41,8 @@ use Rattle.inner_header.specs.InnerHeader.{
   Refused,
   walkIn,
   walk,
-  tallyOf,
-  putTally,
 }
+use Rattle.inner_header.specs.Tally.{tallyOf, putTally}
 
 pub fieldOf-stands : (a k : Place) (s : List ℕ) (at id : ℕ) (p : Place) → fieldOf a k s at ≡ field.At id p
     → Stands s at id p

@@ -2,7 +2,8 @@
 use mathlib.Core.Path.{sym, _∙_}
 use denote.Ref.{now}
 use lib.ListN.{length}
-use Rattle.inner_header.specs.InnerHeader.{noFields, walk, opened, tallied}
+use Rattle.inner_header.specs.InnerHeader.{noFields, walk, opened}
+use Rattle.inner_header.specs.Tally.{tallied}
 use Rattle.inner_header.proofs.Laws.Opened.{judged-refused, judged-faulty, judged-fine}
 use borrow.Author.Needs.{needs}
 use Rattle.inner_header.proofs.judge.Statement.{statement}

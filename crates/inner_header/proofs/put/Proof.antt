@@ -1,7 +1,7 @@
 -- `inner_header::put` meets its contract. Assumes nothing.
 use borrow.Author.Needs.{needs}
 use borrow.Author.Tests.{eq-eqb, ne-eqb}
-use Rattle.inner_header.specs.InnerHeader.{putTally}
+use Rattle.inner_header.specs.Tally.{putTally}
 use Rattle.inner_header.proofs.put.Statement.{statement}
 use Rattle.inner_header.proofs.put.Tie as tie
 

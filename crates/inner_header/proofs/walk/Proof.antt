@@ -6,19 +6,10 @@ use native.Mathlib.Omega.{arith}
 use denote.Ref.{now}
 use lib.ListN.{length}
 use borrow.Author.Tests.{eq-eqb, ne-eqb}
-use Rattle.inner_header.specs.InnerHeader.{
-  Fields,
-  noFields,
-  put,
-  Walked,
-  walkIn,
-  walk,
-  tallyOf,
-  tallied,
-  putTally,
-}
+use Rattle.inner_header.specs.InnerHeader.{Fields, noFields, put, Walked, walkIn, walk}
 use Rattle.inner_header.specs.declared.Tally.{Tally}
 use Rattle.inner_header.specs.declared.Counted.the-variants as counted
+use Rattle.inner_header.specs.Tally.{tallyOf, tallied, putTally}
 use Rattle.inner_header.proofs.Laws.Walk.{fieldOf-stands, walk-turn, putTally-is, putTally-le}
 use borrow.Author.Needs.{needs}
 use Rattle.inner_header.proofs.walk.Statement.{statement}
