@@ -1,9 +1,6 @@
 // The keys of a vault as its openers and its writer use them (document 01, "Keys" and "File after the header"), and the tag of
 // its header. The contracts cite specs/VaultKeys.
 ghost use mathlib.Core.Path.{_≡_};
-ghost use Prim.Native.Nat.{_≤_};
-ghost use lib.ListN.{length};
-ghost use Rattle.refusals.specs.Limits.{messageLimit};
 ghost use Rattle.vault_keys.specs.VaultKeys as kdbx4;
 use aes::RoundKeys;
 use ciphers::Cipher;
@@ -40,9 +37,9 @@ pub fn keys_with(c: Cipher, seed: [u8; 32], nonce: [u8; 16], t: [u8; 32]) -> Key
     keys_for(c, key, nonce, base)
 }
 
-// The tag of a header's bytes, where they are within a message's limit.
+// The tag of a header's bytes: zeros where they are over a message's limit.
 pub fn header_tag(base: [u8; 64], m: &[u8]) -> [u8; 32]
-    ensures { λ r. ⌜ (length (now (m .entry)) ≤ messageLimit → r ≡ kdbx4.headerTag base (now (m .entry))) ⌝ }
+    ensures { λ r. ⌜ r ≡ kdbx4.answeredTag base (now (m .entry)) ⌝ }
 {
     let key = keys::tag_key(0xFFFF_FFFF_FFFF_FFFF, base);
     hmac::tag(&key, m).tag

@@ -7,7 +7,7 @@ use denote.Ref.{now}
 use lib.ListN.{length, take, drop, length-take}
 use borrow.Author.Tests.{le-leb}
 use Rattle.slices.specs.Same.{same}
-use Rattle.refusals.specs.Limits.{fileLimit, messageLimit}
+use Rattle.refusals.specs.Limits.{messageLimit}
 use Rattle.refusals.proofs.Laws.Limits.{message-file}
 use Rattle.sha2.specs.Fips180.{sha256, hash}
 use Rattle.sha2.specs.Hashing as hashing

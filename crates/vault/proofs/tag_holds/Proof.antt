@@ -6,9 +6,10 @@ use native.Mathlib.Omega.{arith}
 use denote.Ref.{now}
 use lib.ListN.{length, take, length-take}
 use Rattle.slices.specs.Same.{same}
-use Rattle.refusals.specs.Limits.{fileLimit, messageLimit}
+use Rattle.refusals.specs.Limits.{messageLimit}
 use Rattle.refusals.proofs.Laws.Limits.{message-file}
 use Rattle.vault_keys.specs.VaultKeys.{headerTag}
+use Rattle.vault_keys.proofs.Laws.{answeredTag-within}
 use Rattle.vault.specs.Vault.{tagHolds}
 use borrow.Author.Needs.{needs}
 use Rattle.vault.proofs.tag_holds.Statement.{statement}
@@ -28,7 +29,7 @@ returns c =
     rw (e, length-take) (omega (arith, st .pre .1, message-file)) in
     c .same .ensures
     ∙ ap₂ same (p₂ .part2 .ensures)
-    (t .header-tag .ensures l ∙ ap (λ (x : List ℕ). headerTag (st .args .base) x) e)
+    (t .header-tag .ensures ∙ answeredTag-within (st .args .base) _ l ∙ ap (headerTag (st .args .base)) e)
 
 pub tag-holds-spec : {M : Type 1} → statement M
 tag-holds-spec =

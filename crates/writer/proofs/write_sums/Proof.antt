@@ -10,7 +10,8 @@ use Rattle.sha2.specs.Fips180.{sha256}
 use Rattle.sha2.proofs.Laws.Feeds.{hashed-digest}
 use Rattle.sha256.specs.declared.Hashed.{Hashed}
 use Rattle.vault_keys.specs.VaultKeys.{headerHash}
-use Rattle.writer.proofs.Laws.Laying.{length-headerHash, sums-laid}
+use Rattle.vault_keys.proofs.Laws.{length-headerHash, answeredTag-within}
+use Rattle.writer.proofs.Laws.Laying.{sums-laid}
 use borrow.Author.Needs.{needs}
 use Rattle.writer.proofs.write_sums.Statement.{statement}
 use Rattle.writer.proofs.write_sums.Tie as tie
@@ -42,7 +43,8 @@ returns c =
     let lt : length tag ≡ 32 = search needs in
     let es : sum ≡ headerHash m = ap (λ (x : Hashed). x .digest) (at-hash .hash .ensures) ∙ hashed-digest sha256 m l in
     let ls : length sum ≡ 32 = ap length es ∙ length-headerHash m in
-    sums-laid (st .args .base) d m _ _ sum tag h refl (omega arith) ls lt es (at-tag .header-tag .ensures l)
+    sums-laid (st .args .base) d m _ _ sum tag h refl (omega arith) ls lt es
+    (at-tag .header-tag .ensures ∙ answeredTag-within (st .args .base) m l)
     (at-put .put .ensures) (at-put2 .put2 .ensures)
 
 pub write-sums-spec : {M : Type 1} → statement M
