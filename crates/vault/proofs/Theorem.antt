@@ -16,12 +16,12 @@ use Rattle.opening.specs.Whole.{wholeIn}
 use Rattle.opening.specs.Steps.{openStart}
 use Rattle.opening.specs.Agreement.{RunAgrees}
 use Rattle.opening.proofs.Theorem as behind
-use Rattle.vault.specs.Vault.{start, barred, begun, stateOf, openedBy, openedIn}
+use Rattle.vault.specs.Vault.{start, startRefused, begun, stateOf, openedBy, openedIn}
 use Rattle.vault.specs.Agreement.{Agrees}
 use Rattle.vault.proofs.Laws.Start.{nonce-keysOf, start-begun}
 
 module _ (t f : List ℕ) where
-  refused-whole : (r : Refusal) → start t f ≡ barred r → (n : ℕ) → openedIn t f n ≡ refused r
+  refused-whole : (r : Refusal) → start t f ≡ startRefused r → (n : ℕ) → openedIn t f n ≡ refused r
   unfolding openedIn openedBy
   refused-whole r e n = rw e
 

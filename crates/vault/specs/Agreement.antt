@@ -12,11 +12,11 @@ use Rattle.opening.specs.Decryption.{refused}
 use Rattle.opening.specs.Whole.{wholeIn}
 use Rattle.opening.specs.Steps.{openStart}
 use Rattle.opening.specs.Agreement.{RunAgrees}
-use Rattle.vault.specs.Vault.{start, barred, begun, stateOf, openedIn}
+use Rattle.vault.specs.Vault.{start, startRefused, begun, stateOf, openedIn}
 
 pub record Agrees (t f : List ℕ) : Type 0 where
   -- a refusal that met the start is the whole opener's
-  pub at-start : (r : Refusal) → start t f ≡ barred r → (n : ℕ) → openedIn t f n ≡ refused r
+  pub at-start : (r : Refusal) → start t f ≡ startRefused r → (n : ℕ) → openedIn t f n ≡ refused r
   -- an accepted start gives the state that the steps begin with, the whole opener goes on under the same keys from the same
   -- place, and after every list of steps they agree
   pub state-is : (k : Keys) (p : ℕ) → start t f ≡ begun k p → stateOf (start t f) ≡ openStart k p

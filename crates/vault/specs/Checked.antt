@@ -2,8 +2,8 @@
 use Rattle.refusals.specs.declared.Outcome.the-variants as outcome
 use Rattle.opening.specs.Steps.{noKeys}
 use Rattle.vault.specs.declared.Checked.{Checked}
-use Rattle.vault.specs.Vault.{Begun, barred, begun}
+use Rattle.vault.specs.Vault.{Begun, startRefused, begun}
 
 unfoldable pub checkedOf : Begun → Checked
-checkedOf (barred r) = record { outcome = outcome.Refused r; keys = noKeys; at = 0 }
+checkedOf (startRefused r) = record { outcome = outcome.Refused r; keys = noKeys; at = 0 }
 checkedOf (begun k p) = record { outcome = outcome.Accepted; keys = k; at = p }

@@ -37,7 +37,7 @@ keysOf t f h = keysWith (h .cipher) (bytesAt f (h .seed)) (padded (bytesAt f (h 
 
 -- a start: refused, or the keys and the place of the first block
 pub data Begun : Type 0 where
-  barred : Refusal → Begun
+  startRefused : Refusal → Begun
   begun : Keys → ℕ → Begun
 
 -- the hash and the tag behind a header of n bytes
@@ -50,13 +50,13 @@ tagHolds base f n = same (take 32 (drop (n + 32) f)) (headerTag base (take n f))
 -- 64 bytes present (2), hash (12), tag (13)
 unfoldable pub startAt : List ℕ → ℕ → Keys → Begun
 startAt f n k =
-    cond (ltb (length f - n) 64) (barred CutShort)
+    cond (ltb (length f - n) 64) (startRefused CutShort)
     (cond (hashHolds f n)
-    (cond (tagHolds (k .base) f n) (begun k (n + 64)) (barred HeaderTag))
-    (barred HeaderHash))
+    (cond (tagHolds (k .base) f n) (begun k (n + 64)) (startRefused HeaderTag))
+    (startRefused HeaderHash))
 
 unfoldable pub startIn : List ℕ → List ℕ → Reading → Begun
-startIn t f (read.Refused r) = barred r
+startIn t f (read.Refused r) = startRefused r
 startIn t f (read.Header h) = startAt f (h .length) (keysOf t f h)
 
 unfoldable pub start : List ℕ → List ℕ → Begun
@@ -64,16 +64,16 @@ start t f = startIn t f (header f)
 
 -- a start's answer, and the state that it gives: closed where it is refused
 unfoldable pub outcomeOf : Begun → Outcome
-outcomeOf (barred r) = outcome.Refused r
+outcomeOf (startRefused r) = outcome.Refused r
 outcomeOf (begun k p) = outcome.Accepted
 
 unfoldable pub stateOf : Begun → Opener
-stateOf (barred r) = blank Closed
+stateOf (startRefused r) = blank Closed
 stateOf (begun k p) = openStart k p
 
 -- the whole opening, with n bytes lent
 unfoldable pub openedBy : Begun → List ℕ → ℕ → Opened
-openedBy (barred r) f n = refused r
+openedBy (startRefused r) f n = refused r
 openedBy (begun k p) f n = wholeIn k f p n
 
 unfoldable pub openedIn : List ℕ → List ℕ → ℕ → Opened

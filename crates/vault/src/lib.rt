@@ -86,7 +86,7 @@ fn tag_holds(f: &[u8], n: usize, base: [u8; 64]) -> bool
 
 // A refused start has no keys.
 fn refuse(why: Refusal) -> Checked
-    ensures { λ r. ⌜ r ≡ checked.checkedOf (kdbx4.barred why) ⌝ }
+    ensures { λ r. ⌜ r ≡ checked.checkedOf (kdbx4.startRefused why) ⌝ }
 {
     Checked {
         outcome: Outcome::Refused(why),

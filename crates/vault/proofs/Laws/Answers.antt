@@ -17,7 +17,7 @@ use Rattle.opening.specs.declared.Phase.the-variants.{Closed}
 use Rattle.opening.specs.Steps.{blank, openStart}
 use Rattle.opening.specs.Whole.{wholeIn, writtenOf, shownOf}
 use Rattle.vault.specs.declared.Checked.{Checked}
-use Rattle.vault.specs.Vault.{Begun, barred, begun, outcomeOf, stateOf, openedBy}
+use Rattle.vault.specs.Vault.{Begun, startRefused, begun, outcomeOf, stateOf, openedBy}
 use Rattle.vault.specs.Checked.{checkedOf}
 
 accepted-never : (r : Refusal) → outcome.Accepted ≡ outcome.Refused r → ⊥
@@ -27,14 +27,14 @@ pub start-accepted : (b : Begun) (x : Checked) (o : Opener) → x ≡ checkedOf 
     → o ≡ openStart (x .keys) (x .at)
     → (outcome.Accepted ≡ outcomeOf b) × (o ≡ stateOf b)
 unfolding checkedOf outcomeOf stateOf
-start-accepted (barred r) x o e h g = absurd (accepted-never r (sym h ∙ ap (λ (y : Checked). y .outcome) e))
+start-accepted (startRefused r) x o e h g = absurd (accepted-never r (sym h ∙ ap (λ (y : Checked). y .outcome) e))
 start-accepted (begun k p) x o e h g = (refl, g ∙ ap (λ (y : Checked). openStart (y .keys) (y .at)) e)
 
 pub start-refused : (b : Begun) (x : Checked) (o : Opener) (r : Refusal) → x ≡ checkedOf b → x .outcome ≡ outcome.Refused r
     → o ≡ blank Closed
     → (outcome.Refused r ≡ outcomeOf b) × (o ≡ stateOf b)
 unfolding checkedOf outcomeOf stateOf
-start-refused (barred s) x o r e h g = (sym h ∙ ap (λ (y : Checked). y .outcome) e, g)
+start-refused (startRefused s) x o r e h g = (sym h ∙ ap (λ (y : Checked). y .outcome) e, g)
 start-refused (begun k p) x o r e h g = absurd (accepted-never r (sym (ap (λ (y : Checked). y .outcome) e) ∙ h))
 
 pub open-accepted : (b : Begun) (x : Checked) (f d y : List ℕ) (n : ℕ) (w : Written) → x ≡ checkedOf b
@@ -42,7 +42,7 @@ pub open-accepted : (b : Begun) (x : Checked) (f d y : List ℕ) (n : ℕ) (w : 
     → w ≡ writtenOf (wholeIn (x .keys) f (x .at) n) → y ≡ over (shownOf (wholeIn (x .keys) f (x .at) n)) d
     → (w ≡ writtenOf (openedBy b f n)) × (y ≡ over (shownOf (openedBy b f n)) d)
 unfolding checkedOf openedBy
-open-accepted (barred r) x f d y n w e h p q = absurd (accepted-never r (sym h ∙ ap (λ (z : Checked). z .outcome) e))
+open-accepted (startRefused r) x f d y n w e h p q = absurd (accepted-never r (sym h ∙ ap (λ (z : Checked). z .outcome) e))
 open-accepted (begun k at) x f d y n w e h p q = (
   p ∙ ap (λ (z : Checked). writtenOf (wholeIn (z .keys) f (z .at) n)) e,
   q ∙ ap (λ (z : Checked). over (shownOf (wholeIn (z .keys) f (z .at) n)) d) e,
@@ -52,5 +52,5 @@ pub open-refused : (b : Begun) (x : Checked) (f d : List ℕ) (n : ℕ) (r : Ref
     → x .outcome ≡ outcome.Refused r
     → (written.Refused r ≡ writtenOf (openedBy b f n)) × (d ≡ over (shownOf (openedBy b f n)) d)
 unfolding checkedOf openedBy writtenOf shownOf over
-open-refused (barred s) x f d n r e h = (cc, refl)
+open-refused (startRefused s) x f d n r e h = (cc, refl)
 open-refused (begun k p) x f d n r e h = absurd (accepted-never r (sym (ap (λ (y : Checked). y .outcome) e) ∙ h))

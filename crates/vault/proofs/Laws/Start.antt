@@ -33,17 +33,10 @@ use Rattle.outer_header.specs.declared.Reading.the-variants as read
 use Rattle.outer_header.proofs.Laws.Accepted.{HeaderStands, header-stands}
 use Rattle.opening.specs.declared.Keys.{Keys}
 use Rattle.opening.specs.Steps.{padded}
-use Rattle.vault_keys.specs.VaultKeys.{keysFor, keysWith}
-use Rattle.vault.specs.Vault.{keysOf, hashHolds, tagHolds, startAt, startIn, start, Begun, barred, begun}
-
-pub over-padded : (s : List ℕ) → length s ≤ 16 → over (take 16 s) (replicate 16 0) ≡ padded s
-unfolding over padded
-over-padded s h =
-    rw (take-all 16 s h) (ap (λ (z : List ℕ). s ++ z) (drop-zeros (length s) 16 h))
-
-pub length-padded : (s : List ℕ) → length s ≤ 16 → length (padded s) ≡ 16
-unfolding padded
-length-padded s h = simp (length-append, length-replicate) (omega arith)
+use Rattle.opening.proofs.Laws.Nonce.{length-padded}
+use Rattle.vault_keys.specs.VaultKeys.{keysWith}
+use Rattle.vault_keys.proofs.Laws.{keysFor-nonce}
+use Rattle.vault.specs.Vault.{keysOf, hashHolds, tagHolds, startAt, startIn, start, startRefused, begun}
 
 -- a place within a list has as many bytes as it says
 length-within : (s : List ℕ) (start n : ℕ) → start + n ≤ length s → length (take n (drop start s)) ≡ n
@@ -91,8 +84,8 @@ pub record Starts (t f : List ℕ) (k : Keys) (p : ℕ) : Type 0 where
   pub place-is : p ≡ said .length + 64
   pub inside : p ≤ length f
 
-barred-never : (r : Refusal) (k : Keys) (p : ℕ) → barred r ≡ begun k p → ⊥
-barred-never r k p e = let z : _≡_ {A = ℕ} 0 1 = cc in omega arith
+refused-never : (r : Refusal) (k : Keys) (p : ℕ) → startRefused r ≡ begun k p → ⊥
+refused-never r k p e = let z : _≡_ {A = ℕ} 0 1 = cc in omega arith
 
 -- what startAt begins with
 record Passes (f : List ℕ) (n : ℕ) (x k : Keys) (p : ℕ) : Type 0 where
@@ -104,7 +97,7 @@ startAt-begun : (f : List ℕ) (n : ℕ) (x k : Keys) (p : ℕ) → startAt f n 
 unfolding startAt
 startAt-begun f n x k p =
     by-bool (ltb (length f - n) 64)
-    (λ a. rw a (λ e. absurd (barred-never CutShort k p e)))
+    (λ a. rw a (λ e. absurd (refused-never CutShort k p e)))
     (λ a.
     by-bool (hashHolds f n)
     (λ b.
@@ -114,12 +107,12 @@ startAt-begun f n x k p =
       behind = cc;
       present = ltb-false (length f - n) 64 a;
     }))
-    (λ d. rw (a, b, d) (λ e. absurd (barred-never HeaderTag k p e))))
-    (λ b. rw (a, b) (λ e. absurd (barred-never HeaderHash k p e))))
+    (λ d. rw (a, b, d) (λ e. absurd (refused-never HeaderTag k p e))))
+    (λ b. rw (a, b) (λ e. absurd (refused-never HeaderHash k p e))))
 
 startIn-begun : (t f : List ℕ) (z : Reading) (k : Keys) (p : ℕ) → header f ≡ z → startIn t f z ≡ begun k p → Starts t f k p
 unfolding startIn
-startIn-begun t f (read.Refused r) k p e h = absurd (barred-never r k p h)
+startIn-begun t f (read.Refused r) k p e h = absurd (refused-never r k p h)
 startIn-begun t f (read.Header said) k p e h =
     let x = startAt-begun f (said .length) (keysOf t f said) k p h in
     let l = header-stands f said e .length-le in
