@@ -4,10 +4,8 @@
 --   Layout         how long its parts are, and how code lays them
 --   CheckedLaws    what figures that may be written keep to
 --   Lies           a written field in a file, and the reader's walk over it
---   Judged         the reader's checks after the end field
 --   Places         where the fields of a written header lie
 pub mod Layout
 pub mod CheckedLaws
 pub mod Lies
-pub mod Judged
 pub mod Places

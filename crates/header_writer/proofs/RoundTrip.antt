@@ -18,6 +18,7 @@ use lib.Seq.{take-nil, take-take, drop-drop}
 use borrow.Author.Tests.{eqb-true, ne-eqb}
 use Rattle.words.specs.Endian.{le, leBytes}
 use Rattle.words.proofs.Laws.Cases.{by-bool}
+use Rattle.slices.proofs.Laws.Parts.{part-front}
 use Rattle.refusals.specs.declared.Outcome.the-variants as outcome
 use Rattle.refusals.specs.Limits.{fileLimit, roundsLimit}
 use Rattle.fields.specs.Fields.{bytesAt, fits, fieldBytes, nowhere}
@@ -45,11 +46,11 @@ use Rattle.outer_header.specs.Kdbx4Header.{
   judged,
   header,
 }
-use Rattle.outer_header.proofs.Laws.Accepted.{accepts-header}
+use Rattle.outer_header.proofs.Laws.Accepted.{accepts-header, accepts-judged}
 use Rattle.header_writer.specs.Written.{noCompression, headerBytes, headerLength, customVerdict, checked}
 use Rattle.header_writer.specs.ReadsBack.{customPlace, writtenHeader, ReadsBack}
 use Rattle.header_writer.specs.declared.Checked.the-variants.{As}
-use Rattle.header_writer.proofs.Laws.Layout.{nonceLength-le, length-headerBytes}
+use Rattle.header_writer.proofs.Laws.Layout.{length-headerBytes}
 use Rattle.header_writer.proofs.Laws.CheckedLaws.{checked-as}
 use Rattle.header_writer.proofs.Laws.Lies.{bytesAt-lies, le-lies, walk-lies, walk-end}
 use Rattle.header_writer.proofs.Laws.Places.{HasFields, header-fields}
@@ -67,12 +68,6 @@ fieldsWith c p =
     }
 
 -- a part of a part
-part-front : (n i k : ℕ) (s : List ℕ) → i + k ≤ n → take k (drop i (take n s)) ≡ take k (drop i s)
-part-front n zero k s h = take-take k n s (omega arith)
-part-front n (suc i) k [] h = rw (take-nil n)
-part-front zero (suc i) k (x ∷ s) h = absurd (omega arith)
-part-front (suc n) (suc i) k (x ∷ s) h = part-front n i k s (omega arith)
-
 part-part : (s t : List ℕ) (a b i m n : ℕ) → take m (drop a s) ≡ t → i + n ≤ m → a + i ≡ b
     → take n (drop b s) ≡ take n (drop i t)
 part-part s t a b i m n e h g =
@@ -192,7 +187,7 @@ module _ (minor : ℕ) (c : Cipher) (seed nonce kdfSeed : List ℕ) (rounds : �
     judged-written =
         let i : bytesAt s (record { start = 17; length = 16 }) ≡ identifier c =
         bytesAt-lies s 12 2 (identifier c) _ (w .cipher-lies) in
-        judged-is s (fieldsWith c (customPlace c (length custom))) minor (headerLength c (length custom)) c
+        accepts-judged s (fieldsWith c (customPlace c (length custom))) minor (headerLength c (length custom)) c
         (record { seed = record { start = 149 + nonceLength c; length = 32 }; rounds = rounds })
         (complete-fields c (customPlace c (length custom))) (ap cipherOf i ∙ cipherOf-identifier c) no-compression refl
         kdf-asks (custom-judged sound)

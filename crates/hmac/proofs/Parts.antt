@@ -13,9 +13,9 @@ use Rattle.refusals.specs.declared.Outcome.the-variants.{Accepted}
 use Rattle.refusals.specs.Limits.{messageLimit}
 use Rattle.refusals.proofs.Laws.Limits.{message-blocks}
 use Rattle.sha2.specs.Fips180.{sha256}
-use Rattle.sha2.specs.Fips180.Constants.{iv256}
 use Rattle.sha2.specs.Feeds.{accepted, joined}
 use Rattle.sha2.proofs.Laws.Feeds.{accepted-all}
+use Rattle.sha2.proofs.Laws.Lengths.{length-iv256}
 use Rattle.hmac.specs.declared.Hmac.{Hmac}
 use Rattle.hmac.specs.declared.Keyed.{Keyed}
 use Rattle.hmac.specs.Rfc2104.{keyBlock, hmac}
@@ -34,17 +34,13 @@ pub started-key : (k : List ℕ) → length k ≤ messageLimit
 unfolding tagging.start
 started-key k l = rw (le-leb _ _ l)
 
-words : length iv256 ≡ 8
-unfolding iv256
-words = refl
-
 -- whatever the parts, and whichever of them are refused
 pub hmac-sha256-of-parts : (k : List ℕ) (ss : List (List ℕ)) → length k ≤ messageLimit
     → finished (feeds (started k .next) ss) ≡ hmac sha256 k (accepted messageLimit 0 ss)
 hmac-sha256-of-parts k ss l =
     ap (λ (r : Keyed). finished (feeds (r .next) ss)) (started-key k l)
     ∙ ap (tagging.finish sha256) (held-feeds ss (begun (keyBlock sha256 k)))
-    ∙ hmac-of-parts sha256 (omega arith) words (omega (arith, message-blocks)) k ss
+    ∙ hmac-of-parts sha256 (omega arith) length-iv256 (omega (arith, message-blocks)) k ss
 
 -- within the limit: the tag of all of them
 pub hmac-sha256-of-joined : (k : List ℕ) (ss : List (List ℕ)) → length k ≤ messageLimit

@@ -1,6 +1,7 @@
--- Laws of opening, for the theorem of demand 3.
+-- Laws of opening, most of them for the theorem of demand 3.
 --
 -- In order:
+--   Nonce       a nonce in sixteen bytes
 --   Replies     tests that refuse, and the two outcomes of a hand-over
 --   Judge       what a block's checks say of the file
 --   Pieces      the ciphers over a ciphertext that is cut in two
@@ -15,6 +16,7 @@
 --   Runs        lists of steps
 --   Walk        the whole opener's count never ends a walk
 --   Kept        what each answer leaves in any state
+pub mod Nonce
 pub mod Replies
 pub mod Judge
 pub mod Pieces

@@ -47,6 +47,7 @@ use Rattle.outer_header.specs.Kdbx4Header.{
 use Rattle.outer_header.specs.Frames.{frameLength, fieldFrames, frames, fieldsEnd}
 use Rattle.outer_header.proofs.Laws.Walk.{fieldHere-stands}
 use Rattle.outer_header.proofs.Laws.Accepted.{header-accepts}
+use Rattle.outer_header.proofs.Laws.Behind.{walked-never}
 
 -- a size that is not negative is the number itself; nothing is said of a negative one
 abbrev unsigned : ℕ → Size → Type 0
@@ -95,9 +96,6 @@ fieldsEnd-le (suc k) s at =
     by-bool (eqb (getD s at 0) 0)
     (λ t. rw t (omega arith))
     (λ t. rw t (omega (arith, fieldsEnd-le k s (at + frameLength s at))))
-
-walked-never : (r : Refusal) (f : Fields) (n : ℕ) → walked.Refused r ≡ walked.Ended f n → ⊥
-walked-never r f n e = let z : _≡_ {A = ℕ} 0 1 = cc in omega arith
 
 walkIn-fieldsEnd : (k : ℕ) (f : Fields) (s : List ℕ) (at : ℕ) (e : Field) (rest : Fields → ℕ → Walked) (g : Fields)
     (end : ℕ) → fieldHere f s at ≡ e

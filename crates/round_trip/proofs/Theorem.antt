@@ -22,8 +22,7 @@ use Rattle.refusals.specs.declared.Refusal.the-variants.{TooLong}
 use Rattle.refusals.specs.declared.Written.the-variants as written
 use Rattle.ciphers.specs.declared.Cipher.{Cipher}
 use Rattle.ciphers.specs.declared.Cipher.the-variants.{Aes256, ChaCha20}
-use Rattle.fields.specs.Fields.{bytesAt}
-use Rattle.outer_header.specs.Kdbx4Header.{header}
+use Rattle.ciphers.proofs.Laws.{nonceLength-le}
 use Rattle.outer_header.specs.declared.Header.{Header}
 use Rattle.outer_header.specs.declared.Reading.{Reading}
 use Rattle.header_writer.specs.Written.{headerBytes, checked}
@@ -31,7 +30,6 @@ use Rattle.header_writer.specs.ReadsBack.{ReadsBack, writtenHeader}
 use Rattle.header_writer.specs.declared.Checked.{Checked}
 use Rattle.header_writer.specs.declared.Checked.the-variants.{As, Refused}
 use Rattle.header_writer.proofs.Laws.CheckedLaws.{IsChecked, checked-as}
-use Rattle.header_writer.proofs.Laws.Layout.{nonceLength-le}
 use Rattle.header_writer.proofs.RoundTrip.{header-read-back}
 use Rattle.block_stream.proofs.Laws.Judged.{length-blockBytes}
 use Rattle.opening.specs.declared.Keys.{Keys}
@@ -42,12 +40,13 @@ use Rattle.opening.specs.Steps.{padded}
 use Rattle.opening.specs.Agreement.{Roomy}
 use Rattle.opening.proofs.Laws.Payload.{payload-aes, payload-chaCha}
 use Rattle.opening.proofs.Converse.{OpenedStepwise, opened-stepwise}
-use Rattle.vault_keys.specs.VaultKeys.{keysFor, keysWith, headerHash, headerTag}
+use Rattle.opening.proofs.Laws.Nonce.{length-padded}
+use Rattle.vault_keys.specs.VaultKeys.{keysWith, headerHash, headerTag}
+use Rattle.vault_keys.proofs.Laws.{length-headerHash, length-headerTag, keysFor-cipher, keysFor-nonce}
 use Rattle.vault.specs.Vault.{keysOf, startAt, startIn, start, begun, openedBy, openedIn}
-use Rattle.vault.proofs.Laws.Start.{length-padded, nonce-keysFor}
 use Rattle.writer.specs.Written.{Figures, encryptionBy, blocksFrom, blocksOf, headerOf, fileWith, fileBytes, writingBy, checkedOf, writing}
 use Rattle.round_trip.specs.Opens.{fileKeys, firstBlock, Opens}
-use Rattle.round_trip.proofs.Laws.Start.{length-headerHash, length-headerTag, startAt-written}
+use Rattle.round_trip.proofs.Laws.Start.{startAt-written}
 use Rattle.round_trip.proofs.Laws.Blocks.{walk-blocks}
 
 -- blocks are no shorter than their ciphertext
@@ -66,11 +65,6 @@ blocksFrom-long (suc m) i base t h =
     let c : length r ≤ m = rw length-drop (omega (arith, block-positive)) in
     let y = blocksFrom-long m (suc i) base r c in
     rw (x, length-append) (omega arith))
-
-cipher-keysFor : (c : Cipher) (key nonce base : List ℕ) → keysFor c key nonce base .cipher ≡ c
-unfolding keysFor
-cipher-keysFor Aes256 key nonce base = refl
-cipher-keysFor ChaCha20 key nonce base = refl
 
 payload-by : (c : Cipher) (k : Keys) (b : List ℕ) → IsBlock (k .nonce) → Bytes b → payloadBy c k (encryptionBy c k b) ≡ opened b
 unfolding encryptionBy
@@ -113,7 +107,7 @@ module _ (g : Figures) (c : Cipher) (t b : List ℕ) (ok : checkedOf g ≡ As c)
 
   nonce-is : k .nonce ≡ padded (g .nonce)
   unfolding keysWith
-  nonce-is = nonce-keysFor c _ (padded (g .nonce)) _
+  nonce-is = keysFor-nonce c _ (padded (g .nonce)) _
 
   nonce-le : length (g .nonce) ≤ 16
   nonce-le = let n = nonceLength-le c in let e = checks .nonce-long in omega arith
@@ -133,7 +127,7 @@ module _ (g : Figures) (c : Cipher) (t b : List ℕ) (ok : checkedOf g ≡ As c)
 
   cipher-is : k .cipher ≡ c
   unfolding keysWith
-  cipher-is = cipher-keysFor c _ (padded (g .nonce)) _
+  cipher-is = keysFor-cipher c _ (padded (g .nonce)) _
 
   payload-is : payload k text ≡ opened b
   payload-is = ap (λ (x : Cipher). payloadBy x k text) cipher-is ∙ payload-by c k b nonce-block payload-bytes

@@ -30,21 +30,16 @@ use Rattle.slices.proofs.Laws.Same.{same-refl}
 use Rattle.refusals.specs.Limits.{fileLimit}
 use Rattle.refusals.proofs.Laws.Limits.{file-size}
 use Rattle.sha2.specs.Fips180.{sha256}
-use Rattle.sha2.specs.Fips180.Constants.{iv256}
-use Rattle.sha2.proofs.Laws.Lengths.{length-hash}
+use Rattle.sha2.proofs.Laws.Lengths.{length-hash, length-iv256}
 use Rattle.hmac.specs.Rfc2104.{hmac}
 use Rattle.block_stream.specs.declared.Block.{Block}
 use Rattle.block_stream.specs.declared.Block.the-variants.{Data, Closing, Refused}
 use Rattle.block_stream.specs.Blocks.{blockTag, blockBytes, holds, found, judgeSize, judge, sealed}
 use Rattle.block_stream.proofs.Laws.Sealed.{sealed-fits}
 
-words : length iv256 ≡ 8
-unfolding iv256
-words = refl
-
 pub length-blockTag : (base m : List ℕ) (i : ℕ) → length (blockTag base i m) ≡ 32
 unfolding blockTag hmac
-length-blockTag base m i = length-hash sha256 _ words
+length-blockTag base m i = length-hash sha256 _ length-iv256
 
 pub length-blockBytes : (base d : List ℕ) (i : ℕ) → length (blockBytes base i d) ≡ 36 + length d
 unfolding blockBytes

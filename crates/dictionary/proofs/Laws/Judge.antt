@@ -34,6 +34,7 @@ use Rattle.dictionary.specs.Order.{keyOf, keyAt, held, among}
 use Rattle.dictionary.specs.Repeats.{judgeIn, judge, metIn, met, IsFull, Filled}
 use Rattle.dictionary.proofs.Laws.Entry.{entryAt-past, name-from}
 use Rattle.dictionary.proofs.Laws.Enough.{next-far}
+use Rattle.dictionary.proofs.Laws.Rising.{or-swap}
 
 pub judge-more : (k : ℕ) (s ks : List ℕ) (at : ℕ) (e : Entry) → 0 < k → e ≡ entryAt s at
     → judge k s ks at ≡ judgeIn s ks e (judge (k - 1) s)
@@ -156,13 +157,7 @@ among-append x [] ls = last (among x ls)
     last : (b : Bool) → b ≡ cond b true false
     last true = refl
     last false = refl
-among-append x (k ∷ ks) ls = either (eqb k x) (among-append x ks ls) ∙ swap (eqb k x) (among x ls) (among x ks)
-  where
-    swap : (a b c : Bool) → cond a true (cond b true c) ≡ cond b true (cond a true c)
-    swap true true c = refl
-    swap true false c = refl
-    swap false true c = refl
-    swap false false c = refl
+among-append x (k ∷ ks) ls = either (eqb k x) (among-append x ks ls) ∙ or-swap (eqb k x) (among x ls) (among x ks)
 
 -- what a batch comes to
 pub filled-done : (s : List ℕ) (from : ℕ) (t : List ℕ) (r : Batch) (o : Outcome) → Filled s from t r → r ≡ batch.Done o

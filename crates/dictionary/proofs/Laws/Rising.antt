@@ -1,6 +1,7 @@
 -- Searching and inserting in a rising list of numbers.
 --
 -- In order:
+--   or-swap                     two tests in the other order
 --   among-at                    a number that stands at an index is among them
 --   below-front, above-back     where the number at an index is below one all before it are, and above alike
 --   above-mono                  what is above a number is above lesser ones
@@ -22,11 +23,11 @@ either-true : (b : Bool) → cond b true true ≡ true
 either-true true = refl
 either-true false = refl
 
-swapped : (a b c : Bool) → cond a true (cond b true c) ≡ cond b true (cond a true c)
-swapped true true c = refl
-swapped true false c = refl
-swapped false true c = refl
-swapped false false c = refl
+pub or-swap : (a b c : Bool) → cond a true (cond b true c) ≡ cond b true (cond a true c)
+or-swap true true c = refl
+or-swap true false c = refl
+or-swap false true c = refl
+or-swap false false c = refl
 
 pub among-at : (ks : List ℕ) (m x : ℕ) → m < length ks → getD ks m 0 ≡ x → among x ks ≡ true
 unfolding among
@@ -88,4 +89,4 @@ unfolding among
 among-inserted x zero ks y = refl
 among-inserted x (suc j) [] y = refl
 among-inserted x (suc j) (k ∷ ks) y =
-    ap (λ (b : Bool). cond (eqb k y) true b) (among-inserted x j ks y) ∙ swapped (eqb k y) (eqb x y) (among y ks)
+    ap (λ (b : Bool). cond (eqb k y) true b) (among-inserted x j ks y) ∙ or-swap (eqb k y) (eqb x y) (among y ks)

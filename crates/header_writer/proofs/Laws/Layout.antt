@@ -1,10 +1,9 @@
 -- How long the parts of a header are, and how code lays them one behind the other.
 --
 -- In order:
---   length-versionBytes, length-identifier, length-frontOf
+--   length-versionBytes, length-frontOf
 --   front-laid, end-none, end-custom, header-laid    how code lays them
 --   length-headerBytes                               191 bytes, the nonce, and the custom field
---   nonceLength-le
 -- Assumes nothing.
 use mathlib.Core.Path.{_≡_, refl, sym, ap, _∙_}
 use mathlib.Core.Bool.{cond}
@@ -39,11 +38,6 @@ use Rattle.header_writer.specs.Written.{
 pub length-versionBytes : (minor : ℕ) → length (versionBytes minor) ≡ 12
 unfolding versionBytes leBytes
 length-versionBytes minor = refl
-
-pub length-identifier : (c : Cipher) → length (identifier c) ≡ 16
-unfolding identifier
-length-identifier Aes256 = refl
-length-identifier ChaCha20 = refl
 
 module _ (minor : ℕ) (c : Cipher) (seed : List ℕ) (seed-is : length seed ≡ 32) where
   length-two : length (versionBytes minor ++ fieldBytes 2 (identifier c)) ≡ 33
@@ -164,8 +158,3 @@ length-headerBytes minor c seed nonce kdfSeed rounds custom hs hk hn =
       lk,
       hn,
     ) (omega arith)
-
-pub nonceLength-le : (c : Cipher) → nonceLength c ≤ 16
-unfolding nonceLength
-nonceLength-le Aes256 = omega arith
-nonceLength-le ChaCha20 = omega arith

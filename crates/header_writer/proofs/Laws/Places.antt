@@ -30,12 +30,7 @@ use Rattle.header_writer.specs.Written.{
   headerBytes,
   headerLength,
 }
-use Rattle.header_writer.proofs.Laws.Layout.{
-  length-versionBytes,
-  length-identifier,
-  length-frontOf,
-  length-headerBytes,
-}
+use Rattle.header_writer.proofs.Laws.Layout.{length-versionBytes, length-frontOf, length-headerBytes}
 use Rattle.header_writer.proofs.Laws.Lies.{Lies}
 
 -- the signatures and the version, as the reader takes them

@@ -3,9 +3,8 @@ use mathlib.Core.Path.{_≡_}
 use Prim.Native.Nat.{_≤_}
 use native.Mathlib.Omega.{arith}
 use borrow.Author.Tests.{eq-eqb, ne-eqb}
-use Rattle.ciphers.specs.Ciphers.{nonceLength}
+use Rattle.ciphers.proofs.Laws.{nonceLength-le}
 use Rattle.header_writer.specs.Written.{headerLength}
-use Rattle.header_writer.proofs.Laws.Layout.{nonceLength-le}
 use borrow.Author.Needs.{needs}
 use Rattle.header_writer.proofs.header_len.Statement.{statement}
 use Rattle.header_writer.proofs.header_len.Tie as tie

@@ -4,17 +4,13 @@ use native.Mathlib.Omega.{arith}
 use denote.Ref.{now}
 use lib.ListN.{length}
 use Rattle.sha2.specs.Fips180.{sha256, hash}
-use Rattle.sha2.specs.Fips180.Constants.{iv256}
 use Rattle.sha2.proofs.Laws.Feeds.{hashed-digest}
+use Rattle.sha2.proofs.Laws.Lengths.{length-iv256}
 use Rattle.sha256.specs.declared.Hashed.{Hashed}
 use Rattle.hmac.proofs.Laws.{keyBlock-short, keyBlock-long}
 use borrow.Author.Needs.{needs}
 use Rattle.hmac.proofs.key_block.Statement.{statement}
 use Rattle.hmac.proofs.key_block.Tie as tie
-
-words : length iv256 ≡ 8
-unfolding iv256
-words = refl
 
 returns : tie.Need-returns
 returns c =
@@ -28,7 +24,7 @@ returns-2 c =
     let k = now (st .args .key) in
     let e : at-hash .hash .result .digest ≡ hash sha256 k = ap (λ (h : Hashed). h .digest) (at-hash .hash .ensures)
     ∙ hashed-digest sha256 k (st .pre) in
-    keyBlock-long sha256 words k (omega arith) e (c .before .copy2 .ensures)
+    keyBlock-long sha256 length-iv256 k (omega arith) e (c .before .copy2 .ensures)
 
 pub key-block-spec : {M : Type 1} → statement M
 key-block-spec =

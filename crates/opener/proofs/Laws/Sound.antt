@@ -8,7 +8,7 @@ use Prim.Native.Nat.{ℕ, _+_, _-_, _*_, _/_, _≤_, _<_}
 use native.Mathlib.Omega.{arith}
 use lib.Dec.{leb}
 use borrow.Author.Tests.{le-leb, lt-leb, leb-true, leb-false}
-use Rattle.words.proofs.Laws.Cases.{by-bool}
+use Rattle.words.proofs.Laws.Cases.{by-bool, and-true}
 use Rattle.refusals.specs.Limits.{fileLimit}
 use Rattle.opening.specs.Steps.{sound}
 
@@ -32,10 +32,6 @@ sound-count i p c e h =
     (λ t. let k : (p - c) / 36 < i = leb-false i ((p - c) / 36) t in
     let l : p < 36 * i + c = omega arith in
     rw (t, e, lt-leb _ _ l))
-
-and-true : (a b : Bool) → (a && b) ≡ true → (a ≡ true) × (b ≡ true)
-and-true true b e = (refl, e)
-and-true false b e = let z : _≡_ {A = ℕ} 0 1 = cc in absurd (omega arith)
 
 pub sound-fits : (i p c : ℕ) → sound i p c ≡ true → 36 * i + c ≤ p
 unfolding sound

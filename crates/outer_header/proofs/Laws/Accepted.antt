@@ -2,6 +2,7 @@
 --
 -- In order:
 --   IsJudged, judged-accepts    the checks after the end field that an accepted header passed, and what it says
+--   accepts-judged              who passes them is accepted
 --   IsHeader, header-accepts    all checks in order
 --   accepts-header              who passes them all is accepted
 --   HeaderStands, header-stands    limits, lengths, and places within the header
@@ -121,6 +122,17 @@ module _ (s : List ℕ) (f : Fields) (minor end : ℕ) (h : Header) where
       by-bool (complete f)
       (λ t. rw t (λ e. identified-accepts (cipherOf (bytesAt s (f .cipher))) t refl e))
       (λ t. rw t (λ e. absurd (refused-never _ h e)))
+
+pub accepts-judged : (s : List ℕ) (f : Fields) (minor end : ℕ) (c : Cipher) (k : AesKdf) → complete f ≡ true
+    → cipherOf (bytesAt s (f .cipher)) ≡ As c
+    → le 4 s (f .compression .start) ≡ 0
+    → f .nonce .length ≡ nonceLength c
+    → kdfOf s (f .kdf) ≡ kdf.Asks k
+    → customOf s (f .custom) ≡ outcome.Accepted
+    → judged s f minor end ≡ read.Header (headerOf f minor end c k)
+unfolding judged identified figures figuresIn
+accepts-judged s f minor end c k t u v w x y =
+    rw (t, u, eq-eqb (le 4 s (f .compression .start)) 0 v, eq-eqb (f .nonce .length) (nonceLength c) w, x, y)
 
 -- all checks in order, passed
 pub record IsHeader (s : List ℕ) (h : Header) : Type 0 where

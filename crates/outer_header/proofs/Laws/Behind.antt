@@ -24,6 +24,7 @@ use Rattle.words.specs.declared.le.Size.{Size}
 use Rattle.words.specs.declared.le.Size.the-variants.{Of, Negative}
 use Rattle.words.proofs.Laws.Cases.{by-bool}
 use Rattle.words.proofs.Laws.Endian.{le-append, le-take}
+use Rattle.slices.proofs.Laws.Parts.{part-front}
 use Rattle.refusals.specs.declared.Refusal.{Refusal}
 use Rattle.refusals.specs.Limits.{fileLimit}
 use Rattle.fields.specs.Fields.{bytesAt, endOf, fits, valueAt, fieldAt}
@@ -73,13 +74,6 @@ pub record Alike (n : ℕ) (s t : List ℕ) : Type 0 where
   pub word : (i : ℕ) → i + 4 ≤ n → le 4 t i ≡ le 4 s i
   pub part : (i k : ℕ) → i + k ≤ n → take k (drop i t) ≡ take k (drop i s)
 
--- a part of a list's front
-part-front : (n i k : ℕ) (s : List ℕ) → i + k ≤ n → take k (drop i (take n s)) ≡ take k (drop i s)
-part-front n zero k s h = take-take k n s (omega arith)
-part-front n (suc i) k [] h = rw (take-nil n)
-part-front zero (suc i) k (x ∷ s) h = absurd (omega arith)
-part-front (suc n) (suc i) k (x ∷ s) h = part-front n i k s (omega arith)
-
 pub append-alike : (n : ℕ) (s t : List ℕ) → n ≤ length s → Alike n s (take n s ++ t)
 append-alike n s t h =
     let l : length (take n s) ≡ n = length-take-le n s h in
@@ -99,7 +93,7 @@ append-alike n s t h =
 field-never : (r : Refusal) (id : ℕ) (p : Place) → field.Refused r ≡ field.At id p → ⊥
 field-never r id p e = let z : _≡_ {A = ℕ} 0 1 = cc in omega arith
 
-walked-never : (r : Refusal) (f : Fields) (n : ℕ) → walked.Refused r ≡ walked.Ended f n → ⊥
+pub walked-never : (r : Refusal) (f : Fields) (n : ℕ) → walked.Refused r ≡ walked.Ended f n → ⊥
 walked-never r f n e = let z : _≡_ {A = ℕ} 0 1 = cc in omega arith
 
 module _ (n : ℕ) (s t : List ℕ) (a : Alike n s t) where

@@ -20,8 +20,7 @@ use lib.Dec.{eqb, ltb}
 use lib.ListN.{length, getD, drop, drop-of-length-le}
 use lib.Seq.{drop-cons}
 use Rattle.words.proofs.Laws.Cases.{by-bool}
-use Rattle.slices.specs.Same.{same}
-use Rattle.slices.proofs.Laws.Same.{same-more}
+use Rattle.slices.proofs.Laws.Same.{eqb-or-xor}
 use Rattle.pkcs7.specs.declared.Padding.the-variants.{Of, Wrong}
 use Rattle.pkcs7.specs.Pkcs7.{allAre, paddingBy, padding}
 use Rattle.pkcs7.specs.Answer.{answer, wrongBits}
@@ -35,17 +34,6 @@ pub checkedFrom-end : (p : ℕ) (s : List ℕ) → length s ≡ 16 → checkedFr
 unfolding checkedFrom
 checkedFrom-end p s e = rw (drop-of-length-le s (let z : length s ≤ 16 = omega arith in z))
 
-and-true-r : (b : Bool) → (b && true) ≡ b
-and-true-r true = refl
-and-true-r false = refl
-
--- bits gathered and those in which two bytes differ
-gathered : (d x y : ℕ) → eqb (bitOr d (bitXor x y)) 0 ≡ (eqb d 0 && eqb x y)
-unfolding same
-gathered d x y =
-    sym (and-true-r (eqb (bitOr d (bitXor x y)) 0)) ∙ same-more d 0 (x ∷ []) (y ∷ []) (omega arith) refl
-    ∙ ap (λ (b : Bool). eqb d 0 && b) (and-true-r (eqb x y))
-
 -- one byte before the others
 pub checkedFrom-more : (d p i : ℕ) (s : List ℕ) → i < length s → eqb d 0 ≡ checkedFrom p (i + 1) (drop (i + 1) s)
     → eqb (bitOr d (wrongBits i p (getD s i 0))) 0 ≡ checkedFrom p i (drop i s)
@@ -53,7 +41,7 @@ unfolding checkedFrom wrongBits
 checkedFrom-more d p i s h e =
     by-bool (ltb (i + p) 16)
     (λ t. rw (drop-cons s i 0 h, t, or-zero-r) (rw add-one at e))
-    (λ f. rw (drop-cons s i 0 h, f, gathered d (getD s i 0) p, e, add-one))
+    (λ f. rw (drop-cons s i 0 h, f, eqb-or-xor d (getD s i 0) p, e, add-one))
 
 and-comm : (a b : Bool) → (a && b) ≡ (b && a)
 and-comm true true = refl

@@ -57,3 +57,8 @@ block-positive = omega arith
 pub block-size : writtenBlock < 2 ^ 31
 unfolding writtenBlock
 block-size = omega arith
+
+-- a block is no larger than a file
+pub block-file : writtenBlock ≤ fileLimit
+unfolding writtenBlock fileLimit
+block-file = omega arith

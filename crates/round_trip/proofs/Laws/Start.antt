@@ -1,6 +1,6 @@
 -- A written header with its hash and tag starts an opening.
 --
--- In order: length-headerHash, length-headerTag, startAt-written.
+-- In order: startAt-written.
 -- Assumes nothing.
 use mathlib.Core.Path.{_≡_, refl, sym, ap, _∙_}
 use mathlib.Core.Bool.{true, false}
@@ -12,24 +12,10 @@ use lib.ListN.{length, take, drop, length-append}
 use lib.Seq.{take-append-seam, drop-append-seam, drop-append-add, take-at}
 use borrow.Author.Tests.{le-ltb}
 use Rattle.slices.proofs.Laws.Same.{same-refl}
-use Rattle.sha2.specs.Fips180.{sha256}
-use Rattle.sha2.specs.Fips180.Constants.{iv256}
-use Rattle.sha2.proofs.Laws.Lengths.{length-hash}
-use Rattle.hmac.specs.Rfc2104.{hmac}
 use Rattle.opening.specs.declared.Keys.{Keys}
 use Rattle.vault_keys.specs.VaultKeys.{headerHash, headerTag}
+use Rattle.vault_keys.proofs.Laws.{length-headerHash, length-headerTag}
 use Rattle.vault.specs.Vault.{hashHolds, tagHolds, startAt, begun}
-
-words : length iv256 ≡ 8
-unfolding iv256
-words = refl
-
-pub length-headerHash : (m : List ℕ) → length (headerHash m) ≡ 32
-length-headerHash m = length-hash sha256 m words
-
-pub length-headerTag : (base m : List ℕ) → length (headerTag base m) ≡ 32
-unfolding headerTag hmac
-length-headerTag base m = length-hash sha256 _ words
 
 -- h is the header, r what stands behind its tag
 module _ (h r : List ℕ) (k : Keys) where

@@ -1,6 +1,6 @@
 -- How long hash values and digests are.
 --
--- In order: length-hashBlocks (eight words), length-digest, length-hash (the bytes of eight words).
+-- In order: length-iv256, length-hashBlocks (eight words), length-digest, length-hash (the bytes of eight words).
 -- Assumes nothing.
 use mathlib.Core.Path.{_≡_, refl, sym, ap, _∙_}
 use mathlib.Core.List.{List, [], _∷_, _++_}
@@ -9,7 +9,12 @@ use native.Mathlib.Nat.{suc-mul, zero-mul, add-comm}
 use native.Mathlib.Omega.{arith}
 use lib.ListN.{length, length-append}
 use Rattle.sha2.specs.Fips180.{Sha2, round, roundOn, rounds, sums, schedule, compress, hashBlocks, digest, hash, parse, pad}
+use Rattle.sha2.specs.Fips180.Constants.{iv256}
 use Rattle.words.proofs.Laws.Endian.{length-beBytes}
+
+pub length-iv256 : length iv256 ≡ 8
+unfolding iv256
+length-iv256 = refl
 
 length-sums : (n : ℕ) (s t : List ℕ) → length s ≡ length t → length (sums n s t) ≡ length s
 unfolding sums

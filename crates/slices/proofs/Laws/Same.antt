@@ -1,6 +1,9 @@
 -- Comparing two lists by the or of the exclusive ors of their elements.
 --
--- In order: same-true, same-refl (the test and the equation), same-length, same-more (one turn), same-all (the loop's end).
+-- In order:
+--   same-refl, same-true, same-length    the test and the equation
+--   eqb-or-xor                           differences gathered
+--   same-more, same-all                  one turn, and the loop's end
 -- Assumes nothing.
 use mathlib.Core.Path.{_≡_, refl, sym, ap, ap₂, _∙_}
 use mathlib.Core.Bool.{Bool, true, false, _&&_}
@@ -13,17 +16,13 @@ use lib.Bits.{bitOr, bitXor, or-add-and, xor-add-and, and-le-l, and-le-r, xor-se
 use lib.ListN.{length, drop, getD, drop-of-length-le}
 use lib.Seq.{drop-cons}
 use borrow.Author.Tests.{eq-eqb, ne-eqb, eqb-true, eqb-false}
-use Rattle.words.proofs.Laws.Cases.{by-bool}
+use Rattle.words.proofs.Laws.Cases.{by-bool, and-true, and-true-r}
 use Rattle.slices.specs.Same.{same}
 
 pub same-refl : (s : List ℕ) → same s s ≡ true
 unfolding same
 same-refl [] = refl
 same-refl (x ∷ s) = rw (eq-eqb x x refl, same-refl s)
-
-and-true : (a b : Bool) → (a && b) ≡ true → (a ≡ true) × (b ≡ true)
-and-true true b e = (refl, e)
-and-true false b e = let z : _≡_ {A = ℕ} 0 1 = cc in absurd (omega arith)
 
 pub same-true : (s t : List ℕ) → same s t ≡ true → s ≡ t
 unfolding same
@@ -43,9 +42,9 @@ or-zero d z h = omega (arith, or-add-and d z, and-le-l d z, and-le-r d z)
 xor-zero : (x y : ℕ) → bitXor x y ≡ 0 → x ≡ y
 xor-zero x y h = omega (arith, xor-add-and x y, and-le-l x y, and-le-r x y)
 
--- one more pair
-seen : (d x y : ℕ) → eqb (bitOr d (bitXor x y)) 0 ≡ (eqb d 0 && eqb x y)
-seen d x y =
+-- the bits gathered so far, and those in which two numbers differ
+pub eqb-or-xor : (d x y : ℕ) → eqb (bitOr d (bitXor x y)) 0 ≡ (eqb d 0 && eqb x y)
+eqb-or-xor d x y =
     by-bool (eqb d 0)
     (λ t. let p : d ≡ 0 = eqb-true d 0 t in
     by-bool (eqb x y)
@@ -68,14 +67,10 @@ pub same-more : (d i : ℕ) (a b : List ℕ) → i < length a → length a ≡ l
 unfolding same
 same-more d i a b l e =
     let m : i < length b = omega arith in
-    rw (seen, and-assoc, add-one, drop-cons a i 0, drop-cons b i 0)
-
-and-all : (p : Bool) → (p && true) ≡ p
-and-all true = refl
-and-all false = refl
+    rw (eqb-or-xor, and-assoc, add-one, drop-cons a i 0, drop-cons b i 0)
 
 pub same-all : (d i : ℕ) (a b : List ℕ) → length a ≡ length b → length a ≤ i → eqb d 0 ≡ compared d i a b
 unfolding same
 same-all d i a b e l =
     let m : length b ≤ i = omega arith in
-    rw (drop-of-length-le a l, drop-of-length-le b m, and-all)
+    rw (drop-of-length-le a l, drop-of-length-le b m, and-true-r)

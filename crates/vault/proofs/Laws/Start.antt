@@ -1,10 +1,8 @@
 -- A vault's start.
 --
 -- In order:
---   over-padded                     a copy into sixteen zeros
---   length-padded                   .. has sixteen bytes
 --   seed-is, nonce-le               an accepted header's seed has 32 bytes, its nonce at most sixteen
---   nonce-keysFor, nonce-keysOf     the nonce of the keys has sixteen bytes
+--   nonce-keysOf                    the nonce of the keys has sixteen bytes
 --   Starts, start-begun             an accepted start's header, keys and place
 -- Assumes nothing.
 use mathlib.Core.Path.{_≡_, refl, sym, ap, ap₂, _∙_}
@@ -22,9 +20,7 @@ use Rattle.slices.proofs.Laws.Zeros.{drop-zeros}
 use Rattle.refusals.specs.Limits.{fileLimit}
 use Rattle.refusals.specs.declared.Refusal.{Refusal}
 use Rattle.refusals.specs.declared.Refusal.the-variants.{CutShort, HeaderHash, HeaderTag}
-use Rattle.ciphers.specs.Ciphers.{nonceLength}
-use Rattle.ciphers.specs.declared.Cipher.{Cipher}
-use Rattle.ciphers.specs.declared.Cipher.the-variants.{Aes256, ChaCha20}
+use Rattle.ciphers.proofs.Laws.{nonceLength-le}
 use Rattle.fields.specs.Fields.{bytesAt}
 use Rattle.outer_header.specs.Kdbx4Header.{header}
 use Rattle.outer_header.specs.declared.Header.{Header}
@@ -41,11 +37,6 @@ use Rattle.vault.specs.Vault.{keysOf, hashHolds, tagHolds, startAt, star
 -- a place within a list has as many bytes as it says
 length-within : (s : List ℕ) (start n : ℕ) → start + n ≤ length s → length (take n (drop start s)) ≡ n
 length-within s start n h = length-take-le n (drop start s) (simp length-drop (omega arith))
-
-nonceLength-le : (c : Cipher) → nonceLength c ≤ 16
-unfolding nonceLength
-nonceLength-le Aes256 = omega arith
-nonceLength-le ChaCha20 = omega arith
 
 module _ (f : List ℕ) (h : Header) (e : header f ≡ read.Header h) where
   stands : HeaderStands f h
@@ -65,15 +56,10 @@ module _ (f : List ℕ) (h : Header) (e : header f ≡ read.Header h) where
       let l = stands .nonce-length in
       rw (length-within f (h .nonce .start) (h .nonce .length) (omega arith)) (omega arith)
 
-pub nonce-keysFor : (c : Cipher) (key nonce base : List ℕ) → keysFor c key nonce base .nonce ≡ nonce
-unfolding keysFor
-nonce-keysFor Aes256 key nonce base = refl
-nonce-keysFor ChaCha20 key nonce base = refl
-
 pub nonce-keysOf : (t f : List ℕ) (h : Header) → header f ≡ read.Header h → length (keysOf t f h .nonce) ≡ 16
 unfolding keysOf keysWith
 nonce-keysOf t f h e =
-    ap length (nonce-keysFor (h .cipher) _ (padded (bytesAt f (h .nonce))) _)
+    ap length (keysFor-nonce (h .cipher) _ (padded (bytesAt f (h .nonce))) _)
     ∙ length-padded (bytesAt f (h .nonce)) (nonce-le f h e)
 
 -- an accepted start: the keys are the header's, and the first block stands behind its tag

@@ -1,7 +1,7 @@
 -- `vault::array16` meets its contract. Assumes nothing.
 use mathlib.Core.Path.{_≡_, _∙_}
 use denote.Ref.{now}
-use Rattle.vault.proofs.Laws.Start.{over-padded}
+use Rattle.opening.proofs.Laws.Nonce.{over-padded}
 use borrow.Author.Needs.{needs}
 use Rattle.vault.proofs.array16.Statement.{statement}
 use Rattle.vault.proofs.array16.Tie as tie

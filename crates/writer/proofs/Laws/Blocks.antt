@@ -4,7 +4,6 @@
 --   blocksFrom-same                             the count that ends them need only be large enough
 --   blocks-none, blocks-full, blocks-last       nothing left, a full block before the rest, the last one
 --   length-blocks                               how long they are
---   block-file                                  a block is no larger than a file
 --   blocks-cut                                  a full block of a payload before the rest
 --   blocks-turn                                 one turn of the loop that writes them
 -- Not here: how code lays them (Laying).
@@ -117,10 +116,6 @@ length-from (suc m) base i t h =
 
 pub length-blocks : (base : List ℕ) (i : ℕ) (t : List ℕ) → length (blocksAt base i t) ≡ blocksLength (length t)
 length-blocks base i t = length-from (length t) base i t (omega arith)
-
-pub block-file : writtenBlock ≤ fileLimit
-unfolding writtenBlock fileLimit
-block-file = omega arith
 
 -- a block of a payload, encrypted, before the rest of it chained to the block
 pub blocks-cut : (k : Keys) (v : List ℕ) (i p : ℕ) (a b : List ℕ) → length v ≡ 16 → length a ≡ writtenBlock

@@ -1,8 +1,6 @@
 -- The file as a whole: how long it is, and its parts as code lays them.
 --
 -- In order:
---   length-padded                 a nonce in sixteen bytes
---   keysWith-cipher, keysWith-nonce
 --   length-summed                 a header, its hash and its tag
 --   length-written-blocks         the blocks of a payload
 --   header-summed                 a header laid at the front, then its hash and tag
@@ -20,40 +18,18 @@ use Rattle.slices.specs.Over.{over, laid}
 use Rattle.slices.proofs.Laws.Over.{length-over, take-over, over-fits, over-over, over-tail}
 use Rattle.ciphers.specs.Ciphers.{nonceLength}
 use Rattle.ciphers.specs.declared.Cipher.{Cipher}
-use Rattle.ciphers.specs.declared.Cipher.the-variants.{Aes256, ChaCha20}
+use Rattle.ciphers.proofs.Laws.{nonceLength-le}
 use Rattle.header_writer.specs.Written.{headerBytes, headerLength}
-use Rattle.header_writer.proofs.Laws.Layout.{length-headerBytes, nonceLength-le}
+use Rattle.header_writer.proofs.Laws.Layout.{length-headerBytes}
 use Rattle.opening.specs.declared.Keys.{Keys}
 use Rattle.opening.specs.Steps.{padded}
-use Rattle.keys.specs.Kdbx4Keys.{cipherKey, tagBase}
-use Rattle.vault_keys.specs.VaultKeys.{keysFor, keysWith, headerHash, headerTag}
+use Rattle.opening.proofs.Laws.Nonce.{length-padded}
+use Rattle.vault_keys.specs.VaultKeys.{keysWith, headerHash, headerTag}
+use Rattle.vault_keys.proofs.Laws.{keysWith-cipher, keysWith-nonce, length-headerHash, length-headerTag}
 use Rattle.writer.specs.Written.{encryptionBy, blocksOf, fileWith}
 use Rattle.writer.specs.Stretches.{textLength, blocksAt, blocksLength, fileLength, fileOf, summed, Sized}
 use Rattle.writer.proofs.Laws.Stretches.{encryption-text, length-stretch-text, length-textOf}
 use Rattle.writer.proofs.Laws.Blocks.{length-blocks}
-use Rattle.writer.proofs.Laws.Laying.{length-headerHash, length-headerTag}
-
-pub length-padded : (n : List ℕ) → length n ≤ 16 → length (padded n) ≡ 16
-unfolding padded
-length-padded n h = rw (length-append, length-replicate) (omega arith)
-
-keysFor-cipher : (c : Cipher) (k n b : List ℕ) → keysFor c k n b .cipher ≡ c
-unfolding keysFor
-keysFor-cipher Aes256 k n b = refl
-keysFor-cipher ChaCha20 k n b = refl
-
-keysFor-nonce : (c : Cipher) (k n b : List ℕ) → keysFor c k n b .nonce ≡ n
-unfolding keysFor
-keysFor-nonce Aes256 k n b = refl
-keysFor-nonce ChaCha20 k n b = refl
-
-pub keysWith-cipher : (c : Cipher) (s n t : List ℕ) → keysWith c s n t .cipher ≡ c
-unfolding keysWith
-keysWith-cipher c s n t = keysFor-cipher c (cipherKey s t) n (tagBase s t)
-
-pub keysWith-nonce : (c : Cipher) (s n t : List ℕ) → keysWith c s n t .nonce ≡ n
-unfolding keysWith
-keysWith-nonce c s n t = keysFor-nonce c (cipherKey s t) n (tagBase s t)
 
 pub length-summed : (base h : List ℕ) → length (summed base h) ≡ length h + 64
 length-summed base h =

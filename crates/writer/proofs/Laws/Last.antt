@@ -10,13 +10,14 @@ use native.Mathlib.Omega.{arith}
 use lib.ListN.{length, length-append}
 use Rattle.slices.specs.Over.{over}
 use Rattle.refusals.specs.Limits.{fileLimit, writtenBlock}
+use Rattle.refusals.proofs.Laws.Limits.{block-file}
 use Rattle.block_stream.specs.Blocks.{blockBytes, sealed}
 use Rattle.block_stream.proofs.Laws.Sealed.{sealed-fits}
 use Rattle.block_stream.proofs.Laws.Judged.{length-blockBytes}
 use Rattle.opening.specs.declared.Keys.{Keys}
 use Rattle.writer.specs.Stretches.{stretchBy, textOf, textLength, lastBlocks}
 use Rattle.writer.proofs.Laws.Stretches.{length-textOf, textLength-block, length-stretch-text}
-use Rattle.writer.proofs.Laws.Blocks.{blocks-none, blocks-last, block-file}
+use Rattle.writer.proofs.Laws.Blocks.{blocks-none, blocks-last}
 
 -- the bytes b from position p on, block i, with n bytes of text, to be written over d
 module _ (k : Keys) (v : List ℕ) (i p : ℕ) (b d : List ℕ) (n : ℕ) (en : n ≡ textLength (k .cipher) (length b))

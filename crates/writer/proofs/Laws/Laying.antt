@@ -2,8 +2,6 @@
 --
 -- In order:
 --   text-padded              a payload's last bytes and their padding
---   nonce-padded             a nonce in sixteen bytes
---   length-headerHash, length-headerTag
 --   sums-laid                a header's hash and tag behind it
 --   block-closed             bytes encrypted at 36, and their block sealed
 --   block-laid               whole pieces laid at 36, encrypted and sealed
@@ -23,10 +21,6 @@ use Rattle.slices.proofs.Laws.Zeros.{drop-zeros}
 use Rattle.refusals.specs.Limits.{fileLimit}
 use Rattle.pkcs7.specs.Pkcs7.{pad, paddingString}
 use Rattle.pkcs7.specs.Answer as pkcs7
-use Rattle.sha2.specs.Fips180.{sha256}
-use Rattle.sha2.specs.Fips180.Constants.{iv256}
-use Rattle.sha2.proofs.Laws.Lengths.{length-hash}
-use Rattle.hmac.specs.Rfc2104.{hmac}
 use Rattle.block_stream.specs.Blocks.{blockBytes, sealed}
 use Rattle.block_stream.proofs.Laws.Sealed.{sealed-fits}
 use Rattle.block_stream.proofs.Laws.Judged.{length-blockBytes}
@@ -46,21 +40,6 @@ text-padded b d x h e =
     let l : length b ≤ length d = omega (arith, length-append b p) in
     let f : x ≡ over b d = e ∙ over-fits b d l in
     rw (f, take-over b d (length b) refl, length-over b d l, take-all (length d) (b ++ p) h) (over-over b p d)
-
-pub nonce-padded : (s : List ℕ) → length s ≤ 16 → over (take 16 s) (replicate 16 0) ≡ padded s
-unfolding over padded
-nonce-padded s h = rw (take-all 16 s h) (ap (λ (z : List ℕ). s ++ z) (drop-zeros (length s) 16 h))
-
-words : length iv256 ≡ 8
-unfolding iv256
-words = refl
-
-pub length-headerHash : (m : List ℕ) → length (headerHash m) ≡ 32
-length-headerHash m = length-hash sha256 m words
-
-pub length-headerTag : (base m : List ℕ) → length (headerTag base m) ≡ 32
-unfolding headerTag hmac
-length-headerTag base m = length-hash sha256 _ words
 
 -- the first h bytes are a header m
 pub sums-laid : (base d m x y sum tag : List ℕ) (h : ℕ) → m ≡ take h d → h + 64 ≤ length d → length sum ≡ 32

@@ -10,9 +10,8 @@ use Rattle.words.proofs.Laws.Cases.{by-bool}
 use Rattle.refusals.specs.Limits.{payloadLimit, writtenBlock}
 use Rattle.refusals.proofs.Laws.Limits.{payload-size, block-positive, block-size}
 use Rattle.ciphers.specs.declared.Cipher.{Cipher}
-use Rattle.ciphers.specs.Ciphers.{nonceLength}
+use Rattle.ciphers.proofs.Laws.{nonceLength-le}
 use Rattle.header_writer.specs.Written.{headerLength}
-use Rattle.header_writer.proofs.Laws.Layout.{nonceLength-le}
 use Rattle.writer.specs.Stretches.{textLength, blocksLength, fileLength}
 use Rattle.writer.proofs.Laws.Stretches.{textLength-le}
 use borrow.Author.Needs.{needs}

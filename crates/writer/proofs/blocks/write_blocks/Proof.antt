@@ -11,12 +11,12 @@ use Rattle.slices.specs.Over.{over}
 use Rattle.slices.proofs.Laws.Over.{length-over, over-nil, over-tail}
 use Rattle.slices.proofs.Laws.Parts.{part-tail}
 use Rattle.refusals.specs.Limits.{writtenBlock}
-use Rattle.refusals.proofs.Laws.Limits.{block-positive, block-size}
+use Rattle.refusals.proofs.Laws.Limits.{block-positive, block-file}
 use Rattle.opening.specs.declared.Keys.{Keys}
 use Rattle.writer.specs.Written.{blocksOf, encryptionBy}
 use Rattle.writer.specs.Stretches.{blocksAt, lastBlocks}
 use Rattle.writer.proofs.Laws.Stretches.{encryption-text, length-prevBy}
-use Rattle.writer.proofs.Laws.Blocks.{block-file, Turned, blocks-turn}
+use Rattle.writer.proofs.Laws.Blocks.{Turned, blocks-turn}
 use borrow.Author.Needs.{needs}
 use Rattle.writer.proofs.blocks.write_blocks.Statement.{statement}
 use Rattle.writer.proofs.blocks.write_blocks.Tie as tie
