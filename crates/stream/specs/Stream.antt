@@ -3,7 +3,6 @@
 -- A block function gives, for each value of a counter, a block of 64 bytes; the stream is its blocks for 0, 1, 2 and
 -- so on. Byte p of the stream is byte p % 64 of block p / 64. It is applied by exclusive or, from any position on.
 --
---   Blocks             every block is 64 bytes
 --   byteAt f p         byte p of the stream
 --   keystream f p n    its n bytes from position p on
 --   apply f p s        the bytes s, of which the first stands at position p, with the stream applied
@@ -14,11 +13,6 @@ use Prim.Native.Nat.{ℕ, zero, suc, _+_, _/_, _%_}
 use lib.ListN.{length, getD}
 use Rattle.words.specs.Endian.{Bytes}
 use Rattle.words.specs.Xor.{xors}
-
--- every block is 64 bytes
-pub record Blocks (f : ℕ → List ℕ) : Type 0 where
-  pub size : (c : ℕ) → length (f c) ≡ 64
-  pub bytes : (c : ℕ) → Bytes (f c)
 
 unfoldable pub byteAt : (ℕ → List ℕ) → ℕ → ℕ
 byteAt f p = getD (f (p / 64)) (p % 64) 0

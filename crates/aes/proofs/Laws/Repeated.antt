@@ -1,6 +1,6 @@
 -- A function applied n times.
 --
--- In order: repeated-more (once more), repeated-add (in two helpings), length-repeated.
+-- In order: repeated-more (once more), repeated-add (in two parts).
 -- Assumes nothing.
 use mathlib.Core.Path.{_≡_, ap, _∙_}
 use mathlib.Core.List.{List}
@@ -19,9 +19,3 @@ pub repeated-add : (f : List ℕ → List ℕ) (m n : ℕ) (s : List ℕ) → re
 unfolding repeated
 repeated-add f zero n s = rw zero-add
 repeated-add f (suc m) n s = rw suc-add (ap f (repeated-add f m n s))
-
-pub length-repeated : (f : List ℕ → List ℕ) (k : ℕ) → ((s : List ℕ) → length s ≡ k → length (f s) ≡ k) → (n : ℕ) (s : List ℕ)
-    → length s ≡ k → length (repeated f n s) ≡ k
-unfolding repeated
-length-repeated f k h zero s e = e
-length-repeated f k h (suc n) s e = h (repeated f n s) (length-repeated f k h n s e)

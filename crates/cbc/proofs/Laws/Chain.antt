@@ -1,7 +1,7 @@
 -- The CBC mode over blocks: decryption undoes encryption, encryption decryption, and both may be cut at any block.
 --
 -- In order:
---   lastBlock-append, lastBlock-size, lastBlock-block
+--   lastBlock-append, lastBlock-size
 --   decryptBlocks-encryptBlocks, encryptBlocks-decryptBlocks        each undoes the other
 --   encryptBlocks-all, decryptBlocks-all                            blocks
 --   decryptBlocks-append, encryptBlocks-append                      in two parts

@@ -2,10 +2,10 @@
 --
 -- In order:
 --   length-sum, getD-sum                             sums of words
---   length-serialize, bytes-serialize                the bytes of words
+--   length-serialize                                 the bytes of words
 --   serialize-none, serialize-more, serialize-all    words written one after the other
 --   initialState-is, block-is                        these words, and these steps, are a block's
---   length-block, blocks-are                         every block is 64 bytes
+--   length-block                                     every block is 64 bytes
 --   block-mod                                        only the counter's low 32 bits count
 -- Not here: rounds (Rounds).
 -- Assumes nothing.
@@ -49,11 +49,6 @@ length-serialize (w ∷ ws) =
     let e = length-leBytes 4 w in
     let f = length-serialize ws in
     simp length-append (omega arith)
-
-pub bytes-serialize : (ws : List ℕ) → Bytes (serialize ws)
-unfolding serialize
-bytes-serialize [] i = omega arith
-bytes-serialize (w ∷ ws) i = bytes-append (leBytes 4 w) (serialize ws) (bytes-leBytes 4 w) (bytes-serialize ws) i
 
 serialize-append : (s t : List ℕ) → serialize (s ++ t) ≡ serialize s ++ serialize t
 unfolding serialize
@@ -116,14 +111,6 @@ length-block key counter nonce =
     let k = length-sum (innerBlocks 10 x) x in
     let l = length-serialize (sum (innerBlocks 10 x) x) in
     omega arith
-
-pub blocks-are : (key nonce : List ℕ) → Blocks (blocks key nonce)
-unfolding block
-blocks-are key nonce =
-    record {
-      size = λ c. length-block key c nonce;
-      bytes = λ c. bytes-serialize (sum (innerBlocks 10 (initialState key c nonce)) (initialState key c nonce));
-    }
 
 initialState-mod : (key : List ℕ) (c : ℕ) (nonce : List ℕ)
     → initialState key (c % 2 ^ 32) nonce ≡ initialState key c nonce

@@ -2,7 +2,7 @@
 --
 -- In order:
 --   invMixOf, invMixWord-bytes                           a word mixed
---   dualWord-first, dualWord-mixed, dualWord-last, length-dual    the words of the dual key schedule
+--   dualWord-first, dualWord-mixed, dualWord-last        the words of the dual key schedule
 --   invMixColumns-addRoundKey                            a round key mixed beforehand
 --   eqInvCipher-dual, length-eqInvCipher                 the theorem
 -- Assumes nothing.
@@ -76,10 +76,6 @@ dualWord-last i x h =
 getD-dual : (w : List ℕ) (i : ℕ) → i < 60 → getD (dual w) i 0 ≡ dualWord i (getD w i 0)
 unfolding dual
 getD-dual w i h = getD-tabulate 60 (λ i. dualWord i (getD w i 0)) i h
-
-pub length-dual : (w : List ℕ) → length (dual w) ≡ 60
-unfolding dual
-length-dual w = length-tabulate 60 (λ i. dualWord i (getD w i 0))
 
 -- a round key mixed beforehand
 pub invMixColumns-addRoundKey : (t w : List ℕ) (i : ℕ) → 1 ≤ i → i < 14

@@ -2,7 +2,6 @@
 --
 -- In order:
 --   temp-first, temp-half, temp-plain    what is added, by the place of the word
---   length-expanded, length-keyExpansion
 --   expanded-more, expanded-all          a loop that fills an array: one turn, and its end
 -- Assumes nothing.
 use mathlib.Core.Path.{_≡_, sym, ap, _∙_}
@@ -28,17 +27,6 @@ temp-half i p n e = rw (ne-eqb (i % 8) 0 n, eq-eqb (i % 8) 4 e)
 pub temp-plain : (i p : ℕ) → (i % 8 ≡ 0 → ⊥) → (i % 8 ≡ 4 → ⊥) → temp i p ≡ p
 unfolding temp
 temp-plain i p n m = rw (ne-eqb (i % 8) 0 n, ne-eqb (i % 8) 4 m)
-
-pub length-expanded : (key : List ℕ) (n : ℕ) → length (expanded key n) ≡ 8 + n
-unfolding expanded
-length-expanded key zero = length-tabulate 8 _
-length-expanded key (suc n) =
-    let e = length-expanded key n in
-    simp length-append (omega arith)
-
-pub length-keyExpansion : (key : List ℕ) → length (keyExpansion key) ≡ 60
-unfolding keyExpansion
-length-keyExpansion key = length-expanded key 52
 
 -- the next word, from an array of which the first i words are there
 nextWord-take : (w : List ℕ) (i : ℕ) → 8 ≤ i → i ≤ length w → nextWord (take i w) ≡ bitXor (getD w (i - 8) 0) (temp i (getD w (i - 1) 0))

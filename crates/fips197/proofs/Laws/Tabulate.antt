@@ -1,7 +1,7 @@
 -- A list by a rule for its entries, and a loop that fills an array by it.
 --
--- In order: length-tabulate, getD-tabulate, tabulate-is (by its entries), tabulate-same,
--- tabulate-more (one turn), tabulate-all (the loop's end).
+-- In order: length-tabulate, getD-tabulate, tabulate-is (by its entries), tabulate-more (one turn), tabulate-all (the
+-- loop's end).
 -- Assumes nothing.
 use mathlib.Core.Path.{_≡_, refl, sym, ap, ap₂, _∙_}
 use mathlib.Core.List.{List, [], _∷_, _++_}
@@ -38,12 +38,6 @@ pub tabulate-is : (n : ℕ) (f : ℕ → ℕ) (t : List ℕ) → length t ≡ n 
 tabulate-is n f t e h =
     ext-getD 0 t (tabulate n f) (e ∙ sym (length-tabulate n f))
     (λ k l. let m : k < n = omega arith in h k m ∙ sym (getD-tabulate n f k m))
-
-pub tabulate-same : (n : ℕ) (f g : ℕ → ℕ) → ((k : ℕ) → k < n → f k ≡ g k) → tabulate n f ≡ tabulate n g
-unfolding tabulate
-tabulate-same zero f g h = refl
-tabulate-same (suc n) f g h =
-    ap₂ (λ (l : List ℕ) (x : ℕ). l ++ (x ∷ [])) (tabulate-same n f g (λ k l. h k (omega arith))) (h n (omega arith))
 
 pub tabulate-more : (f : ℕ → ℕ) (t : List ℕ) (i v : ℕ) → i < length t → take i t ≡ tabulate i f → v ≡ f i
     → take (i + 1) (set t i v) ≡ tabulate (i + 1) f

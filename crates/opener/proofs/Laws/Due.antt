@@ -5,7 +5,6 @@
 --   prev-is, held-is, bytes-are     AES: the first n bytes of the run are due, the rest is held
 --   aes-over                        AES: the due bytes in the front of a lent slice
 --   length-due                      as many bytes as the count says
---   dueBy-most                      a block of n bytes makes at most n + 15 due
 --   chacha-over                     ChaCha20: the due bytes in the front of a lent slice
 -- Not here: the run itself (Runs).
 -- Assumes nothing.
@@ -107,11 +106,6 @@ length-due Aes256 k c v x d lv lx =
     let n = dueCount (heldCount c + length d) in
     ap length (bytes-are c (heldCount c) n x d refl lx refl k v) ∙ length-aes c (heldCount c) n x d refl lx refl k v lv
 length-due ChaCha20 k c v x d lv lx = length-apply (blocks (k .key) (take 12 (k .nonce))) c d
-
-pub dueBy-most : (y : Cipher) (c n : ℕ) → dueBy y c n ≤ n + 15
-unfolding dueBy dueCount
-dueBy-most Aes256 c n = omega (arith, heldCount-le c)
-dueBy-most ChaCha20 c n = omega arith
 
 -- the front of `out`, as long as the data, was filled with it and the stream applied
 pub chacha-over : (k : Keys) (c : ℕ) (d out ys : List ℕ) → ys ≡ chaChaFrom k c d

@@ -1,16 +1,14 @@
 -- What proofs know of the limits: these laws, and not their digits. A limit that changes has only this file to answer to.
 --
--- In order: message-word, message-file, message-credential, message-blocks, file-size, rounds-word, block-pieces.
+-- In order:
+--   message-file, message-password, message-key-file, message-blocks
+--   file-size, payload-size, rounds-word
+--   block-pieces, block-positive, block-size, block-file
 -- Assumes nothing.
 use mathlib.Core.Path.{_≡_, refl}
 use Prim.Native.Nat.{ℕ, _+_, _%_, _^_, _≤_, _<_}
 use native.Mathlib.Omega.{arith}
-use Rattle.refusals.specs.Limits.{fileLimit, payloadLimit, passwordLimit, keyFileLimit, messageLimit, roundsLimit, writtenBlock, programLimit}
-
--- a message's length, with a key block before it, is a 32-bit number
-pub message-word : messageLimit + 128 < 2 ^ 32
-unfolding messageLimit
-message-word = omega arith
+use Rattle.refusals.specs.Limits.{fileLimit, payloadLimit, passwordLimit, keyFileLimit, messageLimit, roundsLimit, writtenBlock}
 
 -- a whole file, with a block's number and size before it, is a message
 pub message-file : fileLimit + 12 ≤ messageLimit

@@ -1,6 +1,6 @@
 -- The message schedule (6.2.2 and 6.4.2, step 1), a word at a time.
 --
--- In order: blockWords-more (the block's own words), grow-none, grow-more, grow-all (the words after them).
+-- In order: blockWords-more (the block's own words), grow-more, grow-all (the words after them).
 -- Assumes nothing.
 use mathlib.Core.Path.{_≡_, sym, ap, _∙_}
 use mathlib.Core.List.{List, [], _∷_, _++_}
@@ -32,11 +32,6 @@ module _ (p : Sha2) where
         getD-take i w (i - 15) 0 (omega arith),
         getD-take i w (i - 16) 0 (omega arith),
       )
-
-  pub grow-none : (block w : List ℕ) (i : ℕ) → i ≡ 16 → take i w ≡ blockWords p i block → take i w
-      ≡ grow p (i - 16) (blockWords p 16 block)
-  unfolding grow
-  grow-none block w i e h = rw (h, e)
 
   pub grow-more : (ws w : List ℕ) (i v : ℕ) → 16 ≤ i → i < length w → take i w ≡ grow p (i - 16) ws
       → v ≡ nextWord p (getD w (i - 2) 0) (getD w (i - 7) 0) (getD w (i - 15) 0) (getD w (i - 16) 0)

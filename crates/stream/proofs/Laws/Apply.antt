@@ -4,7 +4,6 @@
 --   apply-nil, length-apply    nothing, and the length kept
 --   apply-apply                the theorem: applied twice at one position, it gives the bytes back
 --   apply-append               the theorem: cut in two, it gives what it gives uncut
---   bytes-apply                bytes stay bytes
 --   apply-block                no further than one block reaches
 --   apply-within, apply-next   less than a block from a block's start on, and a block before the rest
 -- Not here: the stream's bytes (Keystream), loops (Turns).
@@ -21,7 +20,7 @@ use Rattle.words.specs.Xor.{xors}
 use Rattle.words.proofs.Laws.Bytes.{bytes-xors}
 use Rattle.words.proofs.Laws.Xors.{xors-undo, length-xors, xors-append}
 use Rattle.stream.specs.Stream.{keystream, apply}
-use Rattle.stream.proofs.Laws.Keystream.{length-keystream, keystream-add, bytes-keystream, keystream-block}
+use Rattle.stream.proofs.Laws.Keystream.{length-keystream, keystream-add, keystream-block}
 
 pub apply-nil : (f : ℕ → List ℕ) (p : ℕ) → apply f p [] ≡ []
 unfolding apply xors
@@ -48,10 +47,6 @@ apply-append f p a b =
     rw (length-append, keystream-add)
     (let e = sym (length-keystream f p (length a)) in
     xors-append a (keystream f p (length a)) b (keystream f (p + length a) (length b)) e)
-
-pub bytes-apply : (f : ℕ → List ℕ) → ((c : ℕ) → Bytes (f c)) → (p : ℕ) (s : List ℕ) → Bytes s → Bytes (apply f p s)
-unfolding apply
-bytes-apply f b p s h = bytes-xors s (keystream f p (length s)) h (bytes-keystream f b p (length s))
 
 -- only the front of the longer list counts
 xors-take-r : (n : ℕ) (s t : List ℕ) → length s ≤ n → xors s (take n t) ≡ xors s t

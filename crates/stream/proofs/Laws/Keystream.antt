@@ -2,7 +2,6 @@
 --
 -- In order:
 --   length-keystream, keystream-add    how many, and cut in two
---   bytes-keystream                    bytes, where the blocks are
 --   getD-keystream                     one of them
 --   keystream-block                    those within one block
 -- Not here: the stream applied to bytes (Apply).
@@ -28,12 +27,6 @@ keystream-add f p zero n = rw (zero-add, add-zero)
 keystream-add f p (suc m) n =
     let e : p + suc m ≡ p + 1 + m = omega arith in
     rw (suc-add, e) (ap (λ (l : List ℕ). byteAt f p ∷ l) (keystream-add f (p + 1) m n))
-
-pub bytes-keystream : (f : ℕ → List ℕ) → ((c : ℕ) → Bytes (f c)) → (p n : ℕ) → Bytes (keystream f p n)
-unfolding keystream byteAt
-bytes-keystream f b p zero i = omega arith
-bytes-keystream f b p (suc n) zero = b (p / 64) (p % 64)
-bytes-keystream f b p (suc n) (suc i) = bytes-keystream f b (p + 1) n i
 
 pub getD-keystream : (f : ℕ → List ℕ) (p n i : ℕ) → i < n → getD (keystream f p n) i 0 ≡ byteAt f (p + i)
 unfolding keystream

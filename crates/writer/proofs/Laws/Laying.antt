@@ -103,10 +103,6 @@ module _ (b d x : List ℕ) (n : ℕ) (lb : length b ≡ n) (ld : 36 + n ≤ len
   head : length (take 36 d) ≡ 36
   head = length-take-le 36 d (omega arith)
 
-  pub laid-length : length x ≡ length d
-  laid-length =
-      ap length ex ∙ length-over (take 36 d ++ b) d (omega (arith, length-append (take 36 d) b, head))
-
   pub laid-data : take n (drop 36 x) ≡ b
   unfolding over
   laid-data =

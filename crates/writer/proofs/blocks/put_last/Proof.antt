@@ -12,7 +12,7 @@ use Rattle.refusals.proofs.Laws.Limits.{file-size, block-size}
 use Rattle.block_stream.specs.Blocks.{blockBytes}
 use Rattle.writer.specs.Stretches.{stretchBy, textOf, textLength, lastBlocks}
 use Rattle.writer.proofs.Laws.Stretches.{length-stretch-text}
-use Rattle.writer.proofs.Laws.Laying.{laid-behind, laid-length, block-laid, closed-behind}
+use Rattle.writer.proofs.Laws.Laying.{laid-behind, block-laid, closed-behind}
 use Rattle.writer.proofs.Laws.Last.{last-text, last-small, last-none, last-some, last-length, last-room}
 use borrow.Author.Needs.{needs}
 use Rattle.writer.proofs.blocks.put_last.Statement.{statement}
