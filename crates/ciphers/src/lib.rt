@@ -7,6 +7,7 @@ ghost use Rattle.ciphers.specs.Ciphers as ciphers;
 use aes::Aes256;
 use chacha20::ChaCha20;
 
+// A payload's cipher.
 pub enum Cipher {
     Aes256,
     ChaCha20,

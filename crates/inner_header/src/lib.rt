@@ -28,6 +28,7 @@ pub struct Inner {
     pub document: usize,
 }
 
+// The inner header of a payload, or why it is refused.
 pub enum Read {
     Header(Inner),
     Refused(Refusal),

@@ -17,6 +17,7 @@ pub struct Keys {
     pub base: [u8; 64],
 }
 
+// Whether a state takes steps, is closed by a refusal, or has ended.
 pub enum Phase {
     Open,
     Closed,
