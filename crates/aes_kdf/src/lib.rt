@@ -6,7 +6,7 @@
 // of the state. Every value of the struct is a state: one that is refused, or that no call could have made, stays as it is.
 // Table look-ups of AES are not constant-time.
 ghost use mathlib.Core.Path.{_≡_};
-ghost use Prim.Native.Nat.{_≤_, min};
+ghost use Prim.Native.Nat.{min};
 ghost use Rattle.aes_kdf.specs.AesKdf as kdf;
 ghost use Rattle.aes_kdf.specs.State as state;
 use aes::RoundKeys;

@@ -6,9 +6,8 @@
 // The contracts cite specs/Tables. A look-up is told for any table: that a table is te or td is what building it promises.
 // Table look-ups are not constant-time: the places looked up depend on the key.
 ghost use mathlib.Core.Path.{_≡_};
-ghost use lib.ListN.{getD};
 ghost use Rattle.gf256.specs.Gf256 as gf256;
-ghost use Rattle.fips197.specs.Fips197.{word, byteOf};
+ghost use Rattle.fips197.specs.Fips197.{byteOf};
 ghost use Rattle.fips197.specs.HasBytes.{HasBytes};
 ghost use Rattle.aes_tables.specs.Tables as tables;
 

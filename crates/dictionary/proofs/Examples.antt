@@ -5,7 +5,6 @@
 use mathlib.Core.Path.{_≡_, refl}
 use mathlib.Core.List.{List, [], _∷_, _++_}
 use Prim.Native.Nat.{ℕ}
-use lib.ListN.{length, replicate}
 use Rattle.words.specs.Endian.{le, leBytes}
 use Rattle.words.specs.Size.{int32}
 use Rattle.slices.specs.Same.{same}

@@ -16,11 +16,11 @@
 -- Not here: what a KDF dictionary needs, and the one that is written (crate kdf_dictionary).
 -- Assumes nothing.
 use mathlib.Core.Bool.{Bool, true, false, cond}
-use mathlib.Core.List.{List, []}
+use mathlib.Core.List.{List, [], _∷_, _++_}
 use Prim.Native.Nat.{ℕ, zero, suc, _+_, _-_}
 use lib.Dec.{eqb, leb, ltb}
 use lib.ListN.{length, getD, take, drop}
-use Rattle.words.specs.Endian.{le}
+use Rattle.words.specs.Endian.{le, leBytes}
 use Rattle.words.specs.Size.{int32}
 use Rattle.words.specs.declared.le.Size.{Size}
 use Rattle.words.specs.declared.le.Size.the-variants.{Of, Negative}

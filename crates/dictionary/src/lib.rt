@@ -8,7 +8,7 @@
 // there are more items with one of 4,096 (16 KiB).
 ghost use mathlib.Core.Path.{_≡_};
 ghost use Prim.Native.Nat.{_+_, _≤_};
-ghost use lib.ListN.{length, take, drop};
+ghost use lib.ListN.{length};
 ghost use Rattle.words.specs.Endian.{le};
 ghost use Rattle.words.specs.Size.{int32};
 ghost use Rattle.dictionary.specs.Dictionary as dictionary;

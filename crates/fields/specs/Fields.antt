@@ -7,8 +7,8 @@
 -- Both headers have this order, with their own IDs, repetitions and sizes: `listed`, `repeated` and `rule`.
 -- Places of values: bytesAt, endOf; of an absent field: nowhere, given.
 -- Assumes nothing.
-use mathlib.Core.Bool.{Bool, true, false, cond}
-use mathlib.Core.List.{List, [], _∷_, _++_}
+use mathlib.Core.Bool.{Bool, true, cond, not}
+use mathlib.Core.List.{List, _∷_, _++_}
 use Prim.Native.Nat.{ℕ, _+_, _-_}
 use lib.Dec.{eqb, leb}
 use lib.ListN.{length, getD, take, drop}

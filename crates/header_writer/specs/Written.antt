@@ -7,13 +7,12 @@
 --   "Fields are 2, 3, 4, 7, 11, 12, 0"                          headerBytes
 -- Not here: fields (crate fields), the KDF dictionary (crate dictionary, Kdf), reading (crate outer_header).
 -- Assumes nothing.
-use mathlib.Core.Bool.{Bool, cond, _&&_}
+use mathlib.Core.Bool.{cond}
 use mathlib.Core.List.{List, [], _∷_, _++_}
 use Prim.Native.Nat.{ℕ, _+_}
 use lib.Dec.{eqb, leb}
 use lib.ListN.{length}
 use Rattle.words.specs.Endian.{leBytes}
-use Rattle.refusals.specs.declared.Refusal.{Refusal}
 use Rattle.refusals.specs.declared.Refusal.the-variants.{WrongVersion, WrongSize, Unlisted, TooManyRounds}
 use Rattle.refusals.specs.declared.Outcome.{Outcome}
 use Rattle.refusals.specs.declared.Outcome.the-variants as outcome

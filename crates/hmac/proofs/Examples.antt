@@ -1,7 +1,6 @@
 -- A worked example: RFC 4231, 4.3 (test case 2), computed. Assumes nothing.
 use mathlib.Core.Path.{_≡_, refl}
-use mathlib.Core.List.{List, [], _∷_}
-use Prim.Native.Nat.{ℕ}
+use mathlib.Core.List.{[], _∷_}
 use Rattle.words.specs.Endian.{be, beBytes}
 use Rattle.sha2.specs.Fips180.{
   sha256,

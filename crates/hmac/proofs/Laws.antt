@@ -16,17 +16,16 @@ use native.Mathlib.Numerals.{add-one}
 use native.Mathlib.Omega.{arith}
 use lib.Bits.{bitXor}
 use lib.Dec.{leb}
-use lib.ListN.{length, take, set, getD, replicate, length-append, length-replicate}
+use lib.ListN.{length, take, set, getD, replicate, length-replicate}
 use lib.Seq.{take-suc, take-suc-set}
-use borrow.Author.Tests.{le-leb, lt-leb, leb-true, leb-false}
+use borrow.Author.Tests.{le-leb, lt-leb, leb-true}
 use Rattle.slices.specs.Over.{over}
 use Rattle.slices.proofs.Laws.Over.{length-over, over-fits}
 use Rattle.refusals.specs.Limits.{messageLimit}
-use Rattle.refusals.proofs.Laws.Limits.{message-blocks}
 use Rattle.sha2.specs.Fips180.{Sha2, blockBytes, hash}
 use Rattle.sha2.specs.Hashing as hashing
 use Rattle.sha2.specs.Hashing.{Hashing}
-use Rattle.sha2.specs.Feeds.{accepted, joined}
+use Rattle.sha2.specs.Feeds.{accepted}
 use Rattle.sha2.specs.Feeds as hashFeeds
 use Rattle.sha2.proofs.Laws.Lengths.{length-hash}
 use Rattle.sha2.proofs.Laws.Feeding.{Holds, start-holds, absorbed-holds, finish-holds}

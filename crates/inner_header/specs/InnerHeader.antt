@@ -13,7 +13,7 @@
 -- (proofs, Laws.Walk). A field that is absent has the place 0, where no field's value stands.
 -- Not here: a field at a place (crate fields); what the code keeps of the fields (Tally); what is written (Writer).
 -- Assumes nothing.
-use mathlib.Core.Bool.{Bool, false, cond, not, _||_}
+use mathlib.Core.Bool.{Bool, false, cond, _||_}
 use mathlib.Core.List.{List, [], _∷_, _++_}
 use Prim.Native.Nat.{ℕ, zero, suc, _+_, _-_}
 use lib.Dec.{eqb, leb, ltb}

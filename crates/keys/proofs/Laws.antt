@@ -8,7 +8,7 @@
 --   with-password, with-key-file              a pre-hash given with another credential
 --   composite-pre-hash                        the composite key of a pre-hash is the pre-hash
 -- Assumes nothing.
-use mathlib.Core.Path.{_≡_, refl, sym, _∙_}
+use mathlib.Core.Path.{_≡_, refl}
 use mathlib.Core.Bool.{Bool, true, false, not}
 use mathlib.Core.List.{List}
 use Prim.Native.Nat.{ℕ, _≤_}

@@ -6,7 +6,7 @@
 // a pre-hash that is not 32 bytes, or one that is given with another credential.
 ghost use mathlib.Core.Path.{_≡_};
 ghost use mathlib.Core.Bool.{false, not};
-ghost use mathlib.Core.List.{[], _∷_, _++_};
+ghost use mathlib.Core.List.{_++_};
 ghost use Prim.Native.Nat.{_≤_};
 ghost use lib.ListN.{length};
 ghost use Rattle.refusals.specs.Limits.{messageLimit, passwordLimit, keyFileLimit};

@@ -22,7 +22,6 @@ use Rattle.words.specs.Size.{int32}
 use Rattle.words.specs.declared.le.Size.{Size}
 use Rattle.words.specs.declared.le.Size.the-variants.{Of, Negative}
 use Rattle.words.proofs.Laws.Cases.{by-bool}
-use Rattle.refusals.specs.declared.Refusal.{Refusal}
 use Rattle.fields.specs.Fields.{endOf, fits, valueAt, fieldAt}
 use Rattle.fields.specs.declared.Place.{Place}
 use Rattle.fields.specs.declared.SizeRule.{SizeRule}

@@ -12,7 +12,7 @@
 -- A field that is absent has the place 0, where no field's value stands.
 -- Not here: one field (crate fields); dictionaries (crates dictionary and kdf_dictionary); writing (Written).
 -- Assumes nothing.
-use mathlib.Core.Bool.{Bool, false, cond, not, _&&_, _||_}
+use mathlib.Core.Bool.{Bool, false, cond, _&&_, _||_}
 use mathlib.Core.List.{List, [], _∷_}
 use Prim.Native.Nat.{ℕ, zero, suc}
 use lib.Dec.{eqb, leb, ltb}

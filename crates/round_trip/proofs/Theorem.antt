@@ -4,13 +4,12 @@
 -- same from the writer's answer.
 -- Assumes nothing.
 use mathlib.Core.Path.{_≡_, refl, sym, ap, ap₂, _∙_}
-use mathlib.Core.Bool.{cond}
 use mathlib.Core.List.{List, [], _++_, append-assoc}
-use Prim.Native.Nat.{ℕ, zero, suc, _+_, _-_, _≤_, _<_}
+use Prim.Native.Nat.{ℕ, zero, suc, _+_, _-_, _≤_}
 use native.Mathlib.Omega.{arith}
-use lib.Dec.{eqb, leb, ltb}
+use lib.Dec.{eqb, leb}
 use lib.ListN.{length, take, drop, replicate, length-append, length-take, length-drop}
-use borrow.Author.Tests.{le-ltb, leb-true, ltb-false, eqb-true, eqb-false}
+use borrow.Author.Tests.{le-ltb, leb-true, eqb-true, eqb-false}
 use Rattle.words.proofs.Laws.Bytes.{bytes-append, bytes-replicate}
 use Rattle.refusals.proofs.Laws.Limits.{block-positive}
 use Rattle.words.specs.Endian.{Bytes}
@@ -25,7 +24,6 @@ use Rattle.ciphers.specs.declared.Cipher.the-variants.{Aes256, ChaCha20}
 use Rattle.ciphers.proofs.Laws.{nonceLength-le}
 use Rattle.outer_header.specs.declared.Header.{Header}
 use Rattle.outer_header.specs.declared.Reading.{Reading}
-use Rattle.header_writer.specs.Written.{headerBytes, checked}
 use Rattle.header_writer.specs.ReadsBack.{ReadsBack, writtenHeader}
 use Rattle.header_writer.specs.declared.Checked.{Checked}
 use Rattle.header_writer.specs.declared.Checked.the-variants.{As, Refused}
@@ -33,7 +31,7 @@ use Rattle.header_writer.proofs.Laws.CheckedLaws.{IsChecked, checked-as}
 use Rattle.header_writer.proofs.RoundTrip.{header-read-back}
 use Rattle.block_stream.proofs.Laws.Judged.{length-blockBytes}
 use Rattle.opening.specs.declared.Keys.{Keys}
-use Rattle.opening.specs.Decryption.{Opened, opened, payloadBy, payload}
+use Rattle.opening.specs.Decryption.{opened, payloadBy, payload}
 use Rattle.opening.specs.Whole.{walk, whole, roomed, wholeIn}
 use Rattle.opening.specs.Plain.{plainStart}
 use Rattle.opening.specs.Steps.{padded}

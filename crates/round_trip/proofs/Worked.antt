@@ -4,7 +4,7 @@
 -- Assumes nothing.
 use mathlib.Core.Path.{_≡_, refl, sym, ap, _∙_}
 use mathlib.Core.List.{List, [], _++_}
-use Prim.Native.Nat.{ℕ, _+_, _-_, _*_, _/_, _%_, _≤_, _<_}
+use Prim.Native.Nat.{ℕ, _+_, _-_, _*_, _/_, _≤_}
 use native.Mathlib.Omega.{arith}
 use lib.ListN.{length, take, drop, length-drop, take-append-drop}
 use lib.Seq.{length-take-le}
@@ -19,7 +19,6 @@ use Rattle.header_writer.specs.Written.{headerLength}
 use Rattle.header_writer.proofs.Worked.{length-aes, length-chacha}
 use Rattle.block_stream.specs.Blocks.{blockBytes}
 use Rattle.opening.specs.declared.Keys.{Keys}
-use Rattle.opening.specs.Decryption.{chaChaFrom}
 use Rattle.opening.proofs.Laws.Payload.{length-encrypted}
 use Rattle.opening.proofs.Worked as steps
 use Rattle.writer.specs.Written.{Figures, encryptionBy, blocksOf, headerOf, fileBytes}

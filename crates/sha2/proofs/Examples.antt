@@ -1,7 +1,6 @@
 -- Worked examples of the standard (NIST's "SHA256" and "SHA512" example files for FIPS 180-4), computed. Assumes nothing.
 use mathlib.Core.Path.{_≡_, refl}
-use mathlib.Core.List.{List, [], _∷_}
-use Prim.Native.Nat.{ℕ}
+use mathlib.Core.List.{[], _∷_}
 use Rattle.words.specs.Endian.{be, beBytes}
 use Rattle.slices.specs.Cut.{cut}
 use Rattle.sha2.specs.Fips180.{

@@ -15,7 +15,7 @@
 use mathlib.Core.List.{List, [], _∷_, _++_}
 use Prim.Native.Nat.{ℕ, zero, suc, _+_, _-_, _*_, _/_, _%_, _^_}
 use lib.Bits.{bitAnd, bitXor}
-use lib.ListN.{length, getD, take, drop, replicate}
+use lib.ListN.{length, getD, replicate}
 use Rattle.words.specs.Word.{plus, rotr, shr}
 use Rattle.words.specs.Endian.{be, beBytes}
 use Rattle.slices.specs.Cut.{cut}

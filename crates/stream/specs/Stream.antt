@@ -7,11 +7,9 @@
 --   keystream f p n    its n bytes from position p on
 --   apply f p s        the bytes s, of which the first stands at position p, with the stream applied
 -- Assumes nothing.
-use mathlib.Core.Path.{_≡_}
 use mathlib.Core.List.{List, [], _∷_}
 use Prim.Native.Nat.{ℕ, zero, suc, _+_, _/_, _%_}
 use lib.ListN.{length, getD}
-use Rattle.words.specs.Endian.{Bytes}
 use Rattle.words.specs.Xor.{xors}
 
 unfoldable pub byteAt : (ℕ → List ℕ) → ℕ → ℕ

@@ -3,9 +3,9 @@
 -- It is over the definitions that the contracts of `start`, `open` and opener's `step` equate the code with, so it holds of the
 -- code. What the record says after a list of steps is in crate opening, specs/Agreement.
 -- Assumes nothing.
-use mathlib.Core.Path.{_≡_, sym, ap, _∙_}
+use mathlib.Core.Path.{_≡_, ap, _∙_}
 use mathlib.Core.List.{List}
-use Prim.Native.Nat.{ℕ, _+_, _<_}
+use Prim.Native.Nat.{ℕ, _<_}
 use native.Mathlib.Omega.{arith}
 use lib.ListN.{length}
 use Rattle.refusals.specs.declared.Refusal.{Refusal}

@@ -26,7 +26,7 @@ use Rattle.outer_header.specs.declared.Reading.the-variants as read
 use Rattle.opening.specs.declared.Keys.{Keys}
 use Rattle.opening.specs.declared.Opener.{Opener}
 use Rattle.opening.specs.declared.Phase.the-variants.{Closed}
-use Rattle.opening.specs.Decryption.{Opened, refused, opened}
+use Rattle.opening.specs.Decryption.{Opened, refused}
 use Rattle.opening.specs.Whole.{wholeIn}
 use Rattle.opening.specs.Steps.{padded, blank, openStart}
 use Rattle.vault_keys.specs.VaultKeys.{keysWith, headerHash, headerTag}

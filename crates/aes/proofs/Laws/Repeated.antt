@@ -7,7 +7,6 @@ use mathlib.Core.List.{List}
 use Prim.Native.Nat.{ℕ, zero, suc, _+_}
 use native.Mathlib.Nat.{zero-add, suc-add}
 use native.Mathlib.Numerals.{add-one}
-use lib.ListN.{length}
 use Rattle.aes.specs.Repeated.{repeated}
 
 pub repeated-more : (f : List ℕ → List ℕ) (s : List ℕ) (i : ℕ) (x y : List ℕ) → x ≡ repeated f i s → y ≡ f x

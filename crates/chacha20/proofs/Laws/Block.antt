@@ -18,11 +18,9 @@ use native.Mathlib.Omega.{arith}
 use lib.ListN.{length, getD, take, drop, length-append}
 use lib.Seq.{take-at, take-all, take-suc, length-take-le, sets, sets-eq}
 use Rattle.words.specs.Word.{plus}
-use Rattle.words.specs.Endian.{Bytes, le, leBytes}
-use Rattle.words.proofs.Laws.Bytes.{bytes-append, bytes-leBytes}
+use Rattle.words.specs.Endian.{le, leBytes}
 use Rattle.words.proofs.Laws.Endian.{length-leBytes}
-use Rattle.stream.specs.Stream.{Blocks}
-use Rattle.chacha20.specs.Rfc8439.{innerBlocks, initialState, sum, serialize, block, blocks}
+use Rattle.chacha20.specs.Rfc8439.{innerBlocks, initialState, sum, serialize, block}
 use Rattle.chacha20.proofs.Laws.Rounds.{length-innerBlocks}
 
 pub length-sum : (s t : List ℕ) → length (sum s t) ≡ min (length s) (length t)

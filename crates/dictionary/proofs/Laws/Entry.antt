@@ -17,7 +17,6 @@ use Rattle.words.specs.declared.le.Size.{Size}
 use Rattle.words.specs.declared.le.Size.the-variants.{Of, Negative}
 use Rattle.words.proofs.Laws.Cases.{by-bool}
 use Rattle.dictionary.specs.declared.Item.{Item}
-use Rattle.dictionary.specs.declared.Entry.{Entry}
 use Rattle.dictionary.specs.declared.Entry.the-variants as entry
 use Rattle.dictionary.specs.Dictionary.{sizeFits, itemAt, valueAt, nameAt, entryAt, nameOf, next}
 use Rattle.dictionary.specs.Order.{nameFrom}

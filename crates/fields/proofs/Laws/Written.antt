@@ -33,7 +33,7 @@ use Rattle.fields.specs.declared.Place.{Place}
 use Rattle.fields.specs.declared.SizeRule.{SizeRule}
 use Rattle.fields.specs.declared.Field.{Field}
 use Rattle.fields.specs.declared.Field.the-variants as field
-use Rattle.fields.proofs.Laws.Fields.{Stands, fieldAt-stands}
+use Rattle.fields.proofs.Laws.Fields.{fieldAt-stands}
 use Rattle.fields.specs.Fields.{bytesAt, fits, valueAt, fieldAt, fieldBytes}
 
 pub length-fieldBytes : (id : ℕ) (value : List ℕ) → length (fieldBytes id value) ≡ 5 + length value

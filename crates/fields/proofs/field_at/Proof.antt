@@ -1,5 +1,4 @@
 -- `fields::field_at` meets its contract. Assumes nothing.
-use mathlib.Core.Path.{_≡_, sym, _∙_}
 use borrow.Author.Tests.{le-leb, lt-leb}
 use Rattle.fields.specs.Fields.{fieldAt}
 use Prim.Native.Nat.{_+_, _≤_, _<_}

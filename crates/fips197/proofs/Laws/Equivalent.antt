@@ -34,7 +34,7 @@ use Rattle.fips197.specs.Fips197.{
   dual,
 }
 use Rattle.fips197.specs.HasBytes.{HasBytes}
-use Rattle.fips197.proofs.Laws.Tabulate.{length-tabulate, getD-tabulate}
+use Rattle.fips197.proofs.Laws.Tabulate.{getD-tabulate}
 use Rattle.fips197.proofs.Laws.Words.{bytes-word}
 use Rattle.fips197.proofs.Laws.States.{state-same}
 use Rattle.fips197.proofs.Laws.Mix.{invMixByte-lt, invMixByte-linear}

@@ -6,15 +6,14 @@
 -- Assumes nothing.
 use mathlib.Core.Path.{_≡_, sym, ap, _∙_}
 use mathlib.Core.List.{List}
-use Prim.Native.Nat.{ℕ, zero, suc, _+_, _-_, _/_, _%_, _<_, _≤_}
+use Prim.Native.Nat.{ℕ, suc, _+_, _-_, _/_, _%_, _<_, _≤_}
 use native.Mathlib.Numerals.{add-one}
 use native.Mathlib.Omega.{arith}
 use lib.Bits.{bitXor}
-use lib.ListN.{length, getD, take, set, length-append}
+use lib.ListN.{length, getD, take, set}
 use lib.Seq.{length-take-le, getD-take, take-suc-set, take-all}
 use borrow.Author.Tests.{eq-eqb, ne-eqb}
 use Rattle.fips197.specs.Fips197.{rotWord, subWord, rcon, temp, nextWord, expanded, keyExpansion}
-use Rattle.fips197.proofs.Laws.Tabulate.{length-tabulate}
 
 pub temp-first : (i p : ℕ) → i % 8 ≡ 0 → temp i p ≡ bitXor (subWord (rotWord p)) (rcon (i / 8))
 unfolding temp

@@ -1,6 +1,4 @@
 -- `header_writer::header_len` meets its contract. Assumes nothing.
-use mathlib.Core.Path.{_≡_}
-use Prim.Native.Nat.{_≤_}
 use native.Mathlib.Omega.{arith}
 use borrow.Author.Tests.{eq-eqb, ne-eqb}
 use Rattle.ciphers.proofs.Laws.{nonceLength-le}

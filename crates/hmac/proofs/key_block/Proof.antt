@@ -1,8 +1,7 @@
 -- `hmac::key_block` meets its contract. Assumes nothing.
-use mathlib.Core.Path.{_≡_, refl, ap, _∙_}
+use mathlib.Core.Path.{_≡_, ap, _∙_}
 use native.Mathlib.Omega.{arith}
 use denote.Ref.{now}
-use lib.ListN.{length}
 use Rattle.sha2.specs.Fips180.{sha256, hash}
 use Rattle.sha2.proofs.Laws.Feeds.{hashed-digest}
 use Rattle.sha2.proofs.Laws.Lengths.{length-iv256}

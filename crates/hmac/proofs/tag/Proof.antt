@@ -1,7 +1,5 @@
 -- `hmac::tag` meets its contract. Assumes nothing.
 use mathlib.Core.Path.{_≡_, sym, ap, _∙_}
-use mathlib.Core.List.{List, [], _∷_}
-use Prim.Native.Nat.{ℕ, _≤_}
 use denote.Ref.{now}
 use lib.ListN.{length}
 use borrow.Author.Tests.{leb-true}
@@ -9,8 +7,7 @@ use Rattle.refusals.specs.Limits.{messageLimit}
 use Rattle.sha2.specs.Fips180.{sha256}
 use Rattle.hmac.specs.Rfc2104.{hmac}
 use Rattle.hmac.specs.Tagging.{tagged}
-use Rattle.hmac.specs.State.{started, fed, finished}
-use Rattle.hmac.specs.declared.Hmac.{Hmac}
+use Rattle.hmac.specs.State.{fed, finished}
 use Rattle.hmac.specs.declared.Keyed.{Keyed}
 use Rattle.hmac.proofs.Parts.{hmac-sha256-of-one}
 use borrow.Author.Needs.{needs}

@@ -5,7 +5,7 @@ use mathlib.Core.Path.{_≡_, sym, ap, _∙_}
 use denote.Ref.{now}
 use Rattle.refusals.proofs.Laws.Limits.{message-password, message-key-file}
 use Rattle.refusals.specs.Limits.{messageLimit, passwordLimit, keyFileLimit}
-use Rattle.keys.specs.Kdbx4Keys.{credential, over, composite, compositeOf}
+use Rattle.keys.specs.Kdbx4Keys.{credential}
 use Rattle.keys.specs.State.{composed}
 use Rattle.keys.proofs.Laws.{over-mono, composite-password, composite-key-file, composite-within, with-password, with-key-file}
 use borrow.Author.Needs.{needs}

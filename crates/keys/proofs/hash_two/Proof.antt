@@ -1,9 +1,7 @@
 -- `keys::hash_two` meets its contract. Assumes nothing.
 use mathlib.Core.Path.{_≡_, ap, _∙_}
-use Prim.Native.Nat.{_+_, _≤_}
 use native.Mathlib.Omega.{arith}
 use lib.ListN.{length}
-use Rattle.refusals.specs.Limits.{messageLimit}
 use Rattle.refusals.proofs.Laws.Limits.{message-blocks}
 use Rattle.sha256.specs.State.{fed, finished}
 use Rattle.sha256.specs.declared.Sha256.{Sha256}

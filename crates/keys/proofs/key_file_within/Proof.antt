@@ -1,6 +1,5 @@
 -- `keys::key_file_within` meets its contract. Assumes nothing.
-use mathlib.Core.Path.{_≡_, refl, _∙_}
-use mathlib.Core.Bool.{Bool, true, false, not}
+use mathlib.Core.Path.{_∙_}
 use Rattle.keys.proofs.Laws.{not-not}
 use borrow.Author.Needs.{needs}
 use Rattle.keys.proofs.key_file_within.Statement.{statement}

@@ -1,6 +1,5 @@
 -- `keys::password_within` meets its contract. Assumes nothing.
-use mathlib.Core.Path.{_≡_, refl, _∙_}
-use mathlib.Core.Bool.{Bool, true, false, not}
+use mathlib.Core.Path.{_∙_}
 use Rattle.keys.proofs.Laws.{not-not}
 use borrow.Author.Needs.{needs}
 use Rattle.keys.proofs.password_within.Statement.{statement}

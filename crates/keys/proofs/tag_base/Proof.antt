@@ -1,10 +1,8 @@
 -- `keys::tag_base` meets its contract. Assumes nothing.
 use mathlib.Core.Path.{_≡_, ap, _∙_}
 use mathlib.Core.List.{[], _∷_}
-use Prim.Native.Nat.{_+_, _≤_}
 use native.Mathlib.Omega.{arith}
 use lib.ListN.{length}
-use Rattle.refusals.specs.Limits.{messageLimit}
 use Rattle.refusals.proofs.Laws.Limits.{message-blocks}
 use Rattle.sha512.specs.State.{fed, finished}
 use Rattle.sha512.specs.declared.Sha512.{Sha512}

@@ -11,12 +11,12 @@
 -- Assumes nothing.
 use mathlib.Core.Path.{_≡_, refl, ap, _∙_}
 use mathlib.Core.Bool.{Bool}
-use mathlib.Core.List.{List, [], _∷_, _++_}
+use mathlib.Core.List.{List, _++_}
 use Prim.Native.Nat.{ℕ, zero, suc, _+_, _-_, _≤_, _<_}
 use native.Mathlib.Omega.{arith}
 use lib.Dec.{eqb, leb}
 use lib.ListN.{length, getD, take, drop, length-append, length-drop, List·getD-append}
-use lib.Seq.{take-nil, getD-take, take-take, take-append-le, drop-append-le, length-take-le}
+use lib.Seq.{getD-take, take-append-le, drop-append-le, length-take-le}
 use borrow.Author.Tests.{le-leb}
 use Rattle.words.specs.Endian.{le}
 use Rattle.words.specs.Size.{int32}

@@ -6,7 +6,7 @@
 --   block-pieces, block-positive, block-size, block-file
 -- Assumes nothing.
 use mathlib.Core.Path.{_≡_, refl}
-use Prim.Native.Nat.{ℕ, _+_, _%_, _^_, _≤_, _<_}
+use Prim.Native.Nat.{_+_, _%_, _^_, _≤_, _<_}
 use native.Mathlib.Omega.{arith}
 use Rattle.refusals.specs.Limits.{fileLimit, payloadLimit, passwordLimit, keyFileLimit, messageLimit, roundsLimit, writtenBlock}
 

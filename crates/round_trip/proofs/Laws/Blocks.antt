@@ -3,11 +3,10 @@
 -- In order: walk-closing (at the closing block), walk-blocks (from any block on).
 -- Assumes nothing.
 use mathlib.Core.Path.{_≡_, refl, sym, ap, _∙_}
-use mathlib.Core.Bool.{Bool, true, false, cond}
 use mathlib.Core.List.{List, [], _∷_, _++_, append-assoc, append-nil}
-use Prim.Native.Nat.{ℕ, zero, suc, _+_, _-_, _≤_, _<_}
+use Prim.Native.Nat.{ℕ, zero, suc, _+_, _-_, _≤_}
 use native.Mathlib.Omega.{arith}
-use lib.Dec.{eqb, ltb}
+use lib.Dec.{eqb}
 use lib.ListN.{length, take, drop, length-append, length-take, length-drop, take-append-drop}
 use lib.Seq.{take-append-seam, drop-append-seam, drop-append-add}
 use borrow.Author.Tests.{eq-eqb, ne-eqb, eqb-true, eqb-false, le-ltb}
@@ -20,7 +19,7 @@ use Rattle.block_stream.specs.Blocks.{blockTag, blockBytes, found, judge, dataA
 use Rattle.block_stream.specs.declared.Block.the-variants.{Data, Closing}
 use Rattle.block_stream.proofs.Laws.Judged.{length-blockTag, length-blockBytes, judge-written}
 use Rattle.opening.specs.declared.Keys.{Keys}
-use Rattle.opening.specs.Decryption.{Opened, payload}
+use Rattle.opening.specs.Decryption.{payload}
 use Rattle.opening.specs.Whole.{closeOf, walkIn, walk}
 use Rattle.opening.proofs.Laws.Walk.{walk-suc}
 use Rattle.writer.specs.Written.{blocksFrom}

@@ -2,11 +2,11 @@
 --
 -- In order: eight, eight-is, sums-are (6.2.2 and 6.4.2, step 4).
 -- Assumes nothing.
-use mathlib.Core.Path.{_≡_, refl, sym, ap, _∙_}
+use mathlib.Core.Path.{_≡_, ap}
 use mathlib.Core.List.{List, [], _∷_}
 use Prim.Native.Nat.{ℕ, _≤_}
 use native.Mathlib.Omega.{arith}
-use lib.ListN.{length, getD, drop, drop-of-length-le}
+use lib.ListN.{length, getD, drop-of-length-le}
 use lib.Seq.{drop-cons}
 use Rattle.words.specs.Word.{plus}
 use Rattle.sha2.specs.Fips180.{sums}

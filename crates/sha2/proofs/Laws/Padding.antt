@@ -12,7 +12,7 @@ use mathlib.Core.List.{List, _∷_, _++_, append-assoc}
 use Prim.Native.Nat.{ℕ, suc, _+_, _-_, _*_, _/_, _%_, _^_, _≤_, _<_}
 use native.Mathlib.Nat.{mod-lt, mul-comm}
 use native.Mathlib.Omega.{arith}
-use lib.ListN.{length, take, drop, set, replicate, length-append, length-replicate, replicate-append-replicate}
+use lib.ListN.{length, take, set, length-append, length-replicate, replicate-append-replicate}
 use lib.Seq.{length-take-le, set-append-seam, take-append-add}
 use Rattle.words.specs.Endian.{beBytes}
 use Rattle.words.proofs.Laws.Endian.{length-beBytes}

@@ -3,10 +3,9 @@ use mathlib.Core.List.{_++_}
 use lib.Seq.{length-take-le}
 use lib.ListN.{length-append}
 use mathlib.Core.Path.{_≡_, refl, ap, _∙_}
-use Prim.Native.Nat.{_+_, _-_, _*_, _≤_, _<_}
+use Prim.Native.Nat.{_+_, _-_, _*_, _≤_}
 use native.Mathlib.Omega.{arith}
 use lib.ListN.{length, take}
-use Rattle.words.proofs.Laws.Endian.{length-beBytes}
 use Rattle.slices.proofs.Laws.Over.{over-behind-fits, length-over}
 use Rattle.sha2.specs.Fips180.{sha256, digest}
 use Rattle.sha2.proofs.Laws.Digest.{digest-more, digest-all}

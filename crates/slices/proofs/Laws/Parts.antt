@@ -3,13 +3,13 @@
 -- In order: part-tail (the part from a place to the end, as it is lent), part-front (a part of a list's front), take-min (as
 -- many as there are).
 -- Assumes nothing.
-use mathlib.Core.Path.{_≡_, refl, ap}
+use mathlib.Core.Path.{_≡_, ap}
 use mathlib.Core.List.{List, [], _∷_}
-use Prim.Native.Nat.{ℕ, zero, suc, _-_, min}
+use Prim.Native.Nat.{ℕ, zero, suc, _+_, _-_, _≤_, min}
 use native.Mathlib.Nat.{zero-min, min-zero, suc-min-suc}
 use native.Mathlib.Omega.{arith}
 use lib.ListN.{length, take, drop, length-drop}
-use lib.Seq.{take-all}
+use lib.Seq.{take-all, take-nil, take-take}
 
 pub part-tail : (at : ℕ) (s : List ℕ) → take (length s - at) (drop at s) ≡ drop at s
 part-tail at s = take-all (length s - at) (drop at s) (simp length-drop (omega arith))

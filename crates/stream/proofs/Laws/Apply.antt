@@ -15,9 +15,7 @@ use native.Mathlib.Omega.{arith}
 use lib.Bits.{bitXor}
 use lib.ListN.{length, take, drop, length-append, take-append-drop}
 use lib.Seq.{length-take-le}
-use Rattle.words.specs.Endian.{Bytes}
 use Rattle.words.specs.Xor.{xors}
-use Rattle.words.proofs.Laws.Bytes.{bytes-xors}
 use Rattle.words.proofs.Laws.Xors.{xors-undo, length-xors, xors-append}
 use Rattle.stream.specs.Stream.{keystream, apply}
 use Rattle.stream.proofs.Laws.Keystream.{length-keystream, keystream-add, keystream-block}

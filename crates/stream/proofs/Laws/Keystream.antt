@@ -13,7 +13,6 @@ use native.Mathlib.Nat.{add-zero, zero-add, suc-add}
 use native.Mathlib.Omega.{arith}
 use lib.ListN.{length, getD, take, drop, length-drop}
 use lib.Seq.{ext-getD, getD-take, getD-drop, length-take-le}
-use Rattle.words.specs.Endian.{Bytes}
 use Rattle.stream.specs.Stream.{byteAt, keystream}
 
 pub length-keystream : (f : ℕ → List ℕ) (p n : ℕ) → length (keystream f p n) ≡ n

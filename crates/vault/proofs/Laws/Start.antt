@@ -5,19 +5,15 @@
 --   nonce-keysOf                    the nonce of the keys has sixteen bytes
 --   Starts, start-begun             an accepted start's header, keys and place
 -- Assumes nothing.
-use mathlib.Core.Path.{_≡_, refl, sym, ap, ap₂, _∙_}
-use mathlib.Core.Bool.{Bool, true, false, cond}
-use mathlib.Core.List.{List, _++_}
-use Prim.Native.Nat.{ℕ, _+_, _-_, _≤_, _<_}
+use mathlib.Core.Path.{_≡_, refl, ap, _∙_}
+use mathlib.Core.List.{List}
+use Prim.Native.Nat.{ℕ, _+_, _-_, _≤_}
 use native.Mathlib.Omega.{arith}
 use lib.Dec.{ltb}
-use lib.ListN.{length, take, drop, replicate, length-append, length-replicate, length-take, length-drop}
-use lib.Seq.{take-all, length-take-le}
+use lib.ListN.{length, take, drop, length-drop}
+use lib.Seq.{length-take-le}
 use borrow.Author.Tests.{ltb-false}
 use Rattle.words.proofs.Laws.Cases.{by-bool}
-use Rattle.slices.specs.Over.{over}
-use Rattle.slices.proofs.Laws.Zeros.{drop-zeros}
-use Rattle.refusals.specs.Limits.{fileLimit}
 use Rattle.refusals.specs.declared.Refusal.{Refusal}
 use Rattle.refusals.specs.declared.Refusal.the-variants.{CutShort, HeaderHash, HeaderTag}
 use Rattle.ciphers.proofs.Laws.{nonceLength-le}

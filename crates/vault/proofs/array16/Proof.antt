@@ -1,5 +1,5 @@
 -- `vault::array16` meets its contract. Assumes nothing.
-use mathlib.Core.Path.{_≡_, _∙_}
+use mathlib.Core.Path.{_∙_}
 use denote.Ref.{now}
 use Rattle.opening.proofs.Laws.Nonce.{over-padded}
 use borrow.Author.Needs.{needs}

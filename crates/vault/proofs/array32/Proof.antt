@@ -1,6 +1,6 @@
 -- `vault::array32` meets its contract. Assumes nothing.
-use mathlib.Core.Path.{_≡_, _∙_}
-use lib.ListN.{length, replicate}
+use mathlib.Core.Path.{_∙_}
+use lib.ListN.{replicate}
 use denote.Ref.{now}
 use Rattle.slices.proofs.Laws.Over.{over-whole}
 use borrow.Author.Needs.{needs}

@@ -1,5 +1,4 @@
 -- `vault::open` meets its contract. Assumes nothing.
-use mathlib.Core.Path.{_≡_}
 use lib.ListN.{length}
 use Rattle.vault.specs.Vault.{start, openedIn}
 use Rattle.vault.proofs.Laws.Answers.{open-accepted, open-refused}

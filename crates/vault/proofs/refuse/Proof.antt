@@ -2,7 +2,6 @@
 use Rattle.opening.specs.Steps.{noKeys}
 use Rattle.vault.specs.Checked.{checkedOf}
 use mathlib.Core.Path.{refl}
-use borrow.Author.Needs.{needs}
 use Rattle.vault.proofs.refuse.Statement.{statement}
 use Rattle.vault.proofs.refuse.Tie as tie
 

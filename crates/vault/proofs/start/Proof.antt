@@ -1,5 +1,4 @@
 -- `vault::start` meets its contract. Assumes nothing.
-use mathlib.Core.Path.{_≡_}
 use Rattle.vault.specs.Vault.{start}
 use Rattle.vault.proofs.Laws.Answers.{start-accepted, start-refused}
 use denote.Ref.{now}

@@ -1,10 +1,9 @@
 -- `vault_keys::keys_for` meets its contract. Assumes nothing.
-use mathlib.Core.Path.{_≡_, sym, ap, _∙_}
+use mathlib.Core.Path.{ap}
 use mathlib.Core.List.{List}
 use lib.ListN.{replicate}
 use Prim.Native.Nat.{ℕ}
 use Rattle.ciphers.specs.declared.Cipher.the-variants.{Aes256}
-use Rattle.opening.specs.declared.Keys.{Keys}
 use Rattle.vault_keys.specs.VaultKeys.{keysFor}
 use borrow.Author.Needs.{needs}
 use Rattle.vault_keys.proofs.keys_for.Statement.{statement}

@@ -14,7 +14,7 @@
 -- Not here: exclusive or (XorBytes).
 -- Assumes nothing.
 use mathlib.Core.Path.{_≡_, refl, sym, ap, _∙_}
-use mathlib.Core.List.{List, [], _∷_, _++_}
+use mathlib.Core.List.{List, _∷_, _++_}
 use Prim.Native.Nat.{ℕ, zero, suc, _+_, _-_, _*_, _/_, _%_, _^_, _≤_, _<_}
 use native.Mathlib.Nat.{add-assoc, add-zero, zero-add, mul-comm, mul-assoc, pow-suc, one-le-pow, mod-one}
 use native.Mathlib.Numerals.{add-one}

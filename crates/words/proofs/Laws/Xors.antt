@@ -3,10 +3,9 @@
 -- In order: xors-comm, xors-assoc, xors-undo (twice the same gives the list back), length-xors, getD-xors, xors-append.
 -- Not here: exclusive or of numbers (Xor), of words and their bytes (XorBytes).
 -- Assumes nothing.
-use mathlib.Core.Path.{_≡_, refl, sym, ap, ap₂}
+use mathlib.Core.Path.{_≡_, refl, ap, ap₂}
 use mathlib.Core.List.{List, [], _∷_, _++_}
 use Prim.Native.Nat.{ℕ, zero, suc, _+_, _≤_, _<_}
-use native.Mathlib.Nat.{add-suc}
 use native.Mathlib.Omega.{arith}
 use lib.Bits.{bitXor, xor-comm}
 use lib.ListN.{length, getD}

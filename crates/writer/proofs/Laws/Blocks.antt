@@ -9,9 +9,8 @@
 -- Not here: how code lays them (Laying).
 -- Assumes nothing.
 use mathlib.Core.Path.{_≡_, refl, sym, ap, ap₂, _∙_}
-use mathlib.Core.Bool.{Bool, true, false, cond}
 use mathlib.Core.List.{List, [], _++_}
-use Prim.Native.Nat.{ℕ, zero, suc, _+_, _-_, _*_, _/_, _%_, _≤_, _<_}
+use Prim.Native.Nat.{ℕ, zero, suc, _+_, _-_, _/_, _%_, _≤_, _<_}
 use native.Mathlib.Nat.{div-eq-of-lt, div-eq-sub-div}
 use native.Mathlib.Omega.{arith}
 use lib.Dec.{eqb, leb}
@@ -19,7 +18,7 @@ use lib.ListN.{length, take, drop, length-append, length-drop, drop-of-length-le
 use lib.Seq.{take-all, take-at, take-add, drop-at, drop-drop, length-take-le}
 use borrow.Author.Tests.{eq-eqb, ne-eqb, eqb-true, eqb-false, leb-true, leb-false}
 use Rattle.words.proofs.Laws.Cases.{by-bool}
-use Rattle.refusals.specs.Limits.{fileLimit, writtenBlock}
+use Rattle.refusals.specs.Limits.{writtenBlock}
 use Rattle.refusals.proofs.Laws.Limits.{block-positive, block-pieces}
 use Rattle.block_stream.specs.Blocks.{blockBytes}
 use Rattle.block_stream.proofs.Laws.Judged.{length-blockBytes}

@@ -8,15 +8,14 @@
 --   blocks-start, blocks-room     where its blocks go, and that they have room
 --   file-laid                     the blocks behind the header, its hash and its tag
 -- Assumes nothing.
-use mathlib.Core.Path.{_≡_, refl, sym, ap, ap₂, _∙_}
-use mathlib.Core.List.{List, [], _++_, append-assoc}
+use mathlib.Core.Path.{_≡_, sym, ap, ap₂, _∙_}
+use mathlib.Core.List.{List, _++_, append-assoc}
 use Prim.Native.Nat.{ℕ, _+_, _-_, _≤_}
 use native.Mathlib.Omega.{arith}
-use lib.ListN.{length, take, drop, length-append, length-drop, length-replicate}
+use lib.ListN.{length, take, drop, length-append, length-drop}
 use lib.Seq.{take-all, length-take-le}
 use Rattle.slices.specs.Over.{over, laid}
 use Rattle.slices.proofs.Laws.Over.{length-over, take-over, over-fits, over-over, over-tail}
-use Rattle.ciphers.specs.Ciphers.{nonceLength}
 use Rattle.ciphers.specs.declared.Cipher.{Cipher}
 use Rattle.ciphers.proofs.Laws.{nonceLength-le}
 use Rattle.header_writer.specs.Written.{headerBytes, headerLength}
@@ -27,7 +26,7 @@ use Rattle.opening.proofs.Laws.Nonce.{length-padded}
 use Rattle.vault_keys.specs.VaultKeys.{keysWith, headerHash, headerTag}
 use Rattle.vault_keys.proofs.Laws.{keysWith-cipher, keysWith-nonce, length-headerHash, length-headerTag}
 use Rattle.writer.specs.Written.{encryptionBy, blocksOf, fileWith}
-use Rattle.writer.specs.Stretches.{textLength, blocksAt, blocksLength, fileLength, fileOf, summed, Sized}
+use Rattle.writer.specs.Stretches.{textLength, blocksLength, fileLength, fileOf, summed, Sized}
 use Rattle.writer.proofs.Laws.Stretches.{encryption-text, length-stretch-text, length-textOf}
 use Rattle.writer.proofs.Laws.Blocks.{length-blocks}
 

@@ -3,7 +3,7 @@
 -- In order: last-text (how long the text is), last-small, last-none, last-some, last-room (how much room they take).
 -- Not here: the full blocks before (Blocks).
 -- Assumes nothing.
-use mathlib.Core.Path.{_≡_, refl, sym, ap, _∙_}
+use mathlib.Core.Path.{_≡_, sym, ap, _∙_}
 use mathlib.Core.List.{List, [], _++_}
 use Prim.Native.Nat.{ℕ, suc, _+_, _≤_, _<_}
 use native.Mathlib.Omega.{arith}

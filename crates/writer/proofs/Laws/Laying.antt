@@ -9,15 +9,14 @@
 --   closed-behind            the closing block behind the last
 -- Assumes nothing.
 use mathlib.Core.Path.{_≡_, refl, sym, ap, ap₂, _∙_}
-use mathlib.Core.List.{List, [], _++_, append-assoc, append-nil}
-use Prim.Native.Nat.{ℕ, suc, _+_, _-_, _≤_, _<_}
+use mathlib.Core.List.{List, [], _++_, append-assoc}
+use Prim.Native.Nat.{ℕ, _+_, _-_, _≤_}
 use native.Mathlib.Omega.{arith}
-use lib.ListN.{length, take, drop, replicate, length-append, length-drop, length-replicate, take-append-drop, drop-of-length-le}
-use lib.Seq.{take-all, take-at, drop-at, drop-drop, length-take-le, take-append-add}
+use lib.ListN.{length, take, drop, length-append, length-drop}
+use lib.Seq.{take-all, take-at, drop-at, drop-drop, length-take-le}
 use Rattle.slices.specs.Over.{over, laid, putAt}
 use Rattle.slices.proofs.Laws.Over.{length-over, over-own, over-over, over-fits, over-all, take-over, drop-over, over-tail}
 use Rattle.slices.proofs.Laws.Put.{laid-more}
-use Rattle.slices.proofs.Laws.Zeros.{drop-zeros}
 use Rattle.refusals.specs.Limits.{fileLimit}
 use Rattle.pkcs7.specs.Pkcs7.{pad, paddingString}
 use Rattle.pkcs7.specs.Answer as pkcs7

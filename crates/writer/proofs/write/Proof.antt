@@ -1,14 +1,12 @@
 -- `writer::write` meets its contract. Assumes nothing.
-use mathlib.Core.Path.{_≡_, sym, ap, _∙_}
+use mathlib.Core.Path.{sym, ap, _∙_}
 use mathlib.Core.List.{List}
 use Prim.Native.Nat.{ℕ}
 use denote.Ref.{now}
 use lib.ListN.{length}
 use Rattle.slices.specs.Over.{over}
 use Rattle.slices.proofs.Laws.Over.{over-nil}
-use Rattle.header_writer.specs.declared.Checked.the-variants.{As, Refused}
 use Rattle.writer.specs.Written.{Figures, figures, headerOf, fileBytes, checkedOf}
-use Rattle.writer.specs.Stretches.{fileOf, bytesOf}
 use Rattle.writer.proofs.Laws.Checks.{checked-sized, writing-refused, shown-refused, writing-as, shown-as}
 use borrow.Author.Needs.{needs}
 use Rattle.writer.proofs.write.Statement.{statement}

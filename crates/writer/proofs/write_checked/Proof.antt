@@ -1,15 +1,12 @@
 -- `writer::write_checked` meets its contract. Assumes nothing.
-use mathlib.Core.Path.{_≡_, refl, sym, ap, ap₂, _∙_}
-use mathlib.Core.List.{List, []}
-use Prim.Native.Nat.{ℕ, _≤_, _<_}
+use mathlib.Core.Path.{_≡_, refl, sym, ap, _∙_}
+use mathlib.Core.List.{List}
+use Prim.Native.Nat.{ℕ, _≤_}
 use native.Mathlib.Omega.{arith}
 use denote.Ref.{now}
 use lib.ListN.{length}
 use borrow.Author.Tests.{leb-true}
 use Rattle.slices.specs.Over.{over}
-use Rattle.refusals.specs.declared.Written.{Written}
-use Rattle.refusals.specs.declared.Written.the-variants as written
-use Rattle.refusals.specs.declared.Refusal.the-variants.{TooLong, NoRoom}
 use Rattle.refusals.specs.Limits.{fileLimit}
 use Rattle.writer.specs.Stretches.{fileLength, fileOf, settled, bytesOf}
 use Rattle.writer.proofs.Laws.Checks.{settled-payload, settled-file, settled-room, settled-wrote}

@@ -1,10 +1,8 @@
 -- `writer::write_front` meets its contract. Assumes nothing.
-use mathlib.Core.Path.{_≡_, ap, _∙_}
-use Prim.Native.Nat.{ℕ, _+_, _≤_}
+use mathlib.Core.Path.{ap}
+use Prim.Native.Nat.{ℕ, _+_}
 use native.Mathlib.Omega.{arith}
 use denote.Ref.{now}
-use lib.ListN.{length}
-use Rattle.refusals.specs.Limits.{fileLimit}
 use Rattle.refusals.proofs.Laws.Limits.{message-file}
 use Rattle.writer.proofs.Laws.Files.{header-summed}
 use borrow.Author.Needs.{needs}

@@ -1,6 +1,6 @@
 -- `aes_kdf::Transformation::advance` meets its contract. Assumes nothing.
-use mathlib.Core.Path.{_≡_, refl, sym, ap, _∙_}
-use Prim.Native.Nat.{ℕ, _+_, _≤_, _<_, _^_, min}
+use mathlib.Core.Path.{ap, _∙_}
+use Prim.Native.Nat.{min}
 use native.Mathlib.Omega.{arith}
 use Rattle.aes_kdf.specs.AesKdf.{advanced, halfAfter}
 use Rattle.aes_kdf.specs.State.{held}

@@ -1,5 +1,5 @@
 -- `aes_kdf::Transformation::finish` meets its contract. Assumes nothing.
-use mathlib.Core.Path.{_≡_, sym, _∙_}
+use mathlib.Core.Path.{sym, _∙_}
 use borrow.Author.Tests.{eq-eqb, ne-eqb}
 use Rattle.aes_kdf.specs.AesKdf.{finish}
 use borrow.Author.Needs.{needs}

@@ -1,5 +1,5 @@
 -- `aes_kdf::Transformation::is_open` meets its contract. Assumes nothing.
-use mathlib.Core.Path.{_≡_, refl, sym, _∙_}
+use mathlib.Core.Path.{sym, _∙_}
 use Rattle.aes_kdf.specs.AesKdf.{isOpen}
 use borrow.Author.Needs.{needs}
 use Rattle.aes_kdf.proofs.Transformation.is_open.Statement.{statement}

@@ -1,5 +1,5 @@
 -- `aes_kdf::Transformation::remaining` meets its contract. Assumes nothing.
-use mathlib.Core.Path.{_≡_, sym, _∙_}
+use mathlib.Core.Path.{sym, _∙_}
 use native.Mathlib.Omega.{arith}
 use Rattle.aes_kdf.specs.AesKdf.{remaining}
 use Rattle.aes_kdf.specs.State.{held}

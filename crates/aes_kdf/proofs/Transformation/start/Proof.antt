@@ -1,14 +1,13 @@
 -- `aes_kdf::Transformation::start` meets its contract. Assumes nothing.
 use mathlib.Core.List.{List}
-use Prim.Native.Nat.{ℕ, _≤_}
+use Prim.Native.Nat.{ℕ}
 use Rattle.refusals.specs.declared.Outcome.the-variants as outcomes
 use Rattle.aes_kdf.specs.declared.Mark.the-variants as marks
 use Rattle.aes_kdf.specs.declared.Started.{Started}
-use lib.Seq.{length-take-le}
 use Rattle.aes_kdf.proofs.Laws.{left-is, right-is}
 use mathlib.Core.Path.{_≡_, sym, ap, _∙_}
 use native.Mathlib.Omega.{arith}
-use lib.ListN.{length, take, drop, replicate}
+use lib.ListN.{length, take, drop}
 use borrow.Author.Tests.{leb-true}
 use Rattle.refusals.specs.Limits.{roundsLimit}
 use Rattle.refusals.proofs.Laws.Limits.{rounds-word}

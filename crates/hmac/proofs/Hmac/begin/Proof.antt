@@ -1,9 +1,7 @@
 -- `hmac::Hmac::begin` meets its contract. Assumes nothing.
 use mathlib.Core.Path.{_≡_, ap, _∙_}
-use Prim.Native.Nat.{_≤_}
 use native.Mathlib.Omega.{arith}
 use lib.ListN.{length}
-use Rattle.refusals.specs.Limits.{messageLimit}
 use Rattle.refusals.proofs.Laws.Limits.{message-blocks}
 use Rattle.sha2.specs.Fips180.{sha256}
 use Rattle.sha256.specs.State.{held, fed}

@@ -1,13 +1,10 @@
 -- `hmac::Hmac::start` meets its contract. Assumes nothing.
-use mathlib.Core.Path.{_≡_, sym, ap, _∙_}
-use mathlib.Core.List.{List}
-use Prim.Native.Nat.{ℕ}
+use mathlib.Core.Path.{sym, _∙_}
 use denote.Ref.{now}
 use lib.ListN.{length}
 use borrow.Author.Tests.{leb-true}
 use Rattle.refusals.specs.Limits.{messageLimit}
 use Rattle.hmac.specs.Tagging.{start}
-use Rattle.hmac.specs.State.{begun}
 use borrow.Author.Needs.{needs}
 use Rattle.hmac.proofs.Hmac.start.Statement.{statement}
 use Rattle.hmac.proofs.Hmac.start.Tie as tie

@@ -1,6 +1,5 @@
 -- `inner_header::writer::write` meets its contract. Assumes nothing.
 use mathlib.Core.Path.{sym, _∙_}
-use native.Mathlib.Omega.{arith}
 use denote.Ref.{now}
 use lib.ListN.{length}
 use Rattle.slices.proofs.Laws.Over.{over-nil}

@@ -1,5 +1,5 @@
 -- `writer::blocks::lay_text` meets its contract. Assumes nothing.
-use mathlib.Core.Path.{_≡_, sym, ap, _∙_}
+use mathlib.Core.Path.{_≡_, ap, _∙_}
 use mathlib.Core.List.{List}
 use Prim.Native.Nat.{ℕ, _≤_}
 use native.Mathlib.Omega.{arith}
@@ -8,7 +8,7 @@ use lib.ListN.{length}
 use Rattle.slices.specs.Over.{over}
 use Rattle.slices.proofs.Laws.Over.{over-fits}
 use Rattle.pkcs7.specs.Pkcs7.{pad}
-use Rattle.writer.specs.Stretches.{textOf, textLength}
+use Rattle.writer.specs.Stretches.{textOf}
 use Rattle.writer.proofs.Laws.Stretches.{length-textOf, text-aes, text-chacha}
 use Rattle.writer.proofs.Laws.Laying.{text-padded}
 use borrow.Author.Needs.{needs}

@@ -1,10 +1,8 @@
 -- `writer::blocks::put_block` meets its contract. Assumes nothing.
 use mathlib.Core.Path.{_≡_, refl, ap, _∙_}
-use mathlib.Core.List.{List}
-use Prim.Native.Nat.{ℕ, _+_, _-_, _≤_}
-use native.Mathlib.Omega.{arith}
+use Prim.Native.Nat.{_-_}
 use denote.Ref.{now}
-use lib.ListN.{length, take, drop}
+use lib.ListN.{length}
 use Rattle.slices.proofs.Laws.Over.{over-behind-fits}
 use Rattle.writer.specs.Stretches.{prevBy}
 use Rattle.writer.proofs.Laws.Stretches.{length-stretch}

@@ -1,16 +1,16 @@
 -- `writer::blocks::put_last` meets its contract. Assumes nothing.
-use mathlib.Core.Path.{_≡_, refl, sym, ap, _∙_}
-use mathlib.Core.List.{List, []}
+use mathlib.Core.Path.{_≡_, refl, ap, _∙_}
+use mathlib.Core.List.{List}
 use Prim.Native.Nat.{ℕ, _+_, _-_, _≤_}
 use native.Mathlib.Omega.{arith}
 use denote.Ref.{now}
 use lib.ListN.{length, take, drop, length-drop}
 use lib.Seq.{length-take-le}
 use Rattle.slices.specs.Over.{over}
-use Rattle.refusals.specs.Limits.{fileLimit, writtenBlock}
+use Rattle.refusals.specs.Limits.{fileLimit}
 use Rattle.refusals.proofs.Laws.Limits.{file-size, block-size}
 use Rattle.block_stream.specs.Blocks.{blockBytes}
-use Rattle.writer.specs.Stretches.{stretchBy, textOf, textLength, lastBlocks}
+use Rattle.writer.specs.Stretches.{stretchBy, textOf}
 use Rattle.writer.proofs.Laws.Stretches.{length-stretch-text}
 use Rattle.writer.proofs.Laws.Laying.{laid-behind, block-laid, closed-behind}
 use Rattle.writer.proofs.Laws.Last.{last-text, last-small, last-none, last-some, last-length, last-room}

@@ -1,5 +1,4 @@
 -- `writer::blocks::text_len` meets its contract. Assumes nothing.
-use mathlib.Core.Path.{_≡_, sym, ap, _∙_}
 use native.Mathlib.Omega.{arith}
 use Rattle.writer.specs.Stretches.{textLength}
 use borrow.Author.Needs.{needs}
