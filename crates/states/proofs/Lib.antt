@@ -1,0 +1,3 @@
+-- The theorem: RoundTrip.
+pub mod Laws
+pub mod RoundTrip
