@@ -1,8 +1,15 @@
 -- What an exported function leaves in the memory that it is lent. Document 01, "Refusal numbers": "A refusal … changes no lent
 -- byte".
+--
+--   resultOr      a result, where the operation accepts
+--   figuresOr     figures, where their answer's number is 0
+--   countOr       a number of bytes, where the operation wrote them
+--   credential    the credential that a slice and a flag of C stand for
 -- Assumes nothing.
+use mathlib.Core.Bool.{cond, not}
 use mathlib.Core.List.{List}
 use Prim.Native.Nat.{ℕ}
+use lib.Dec.{eqb}
 use Rattle.refusals.specs.declared.Outcome.{Outcome}
 use Rattle.refusals.specs.declared.Outcome.the-variants.{Accepted, Refused}
 use Rattle.refusals.specs.declared.Written.{Written}
@@ -10,7 +17,15 @@ use Rattle.refusals.specs.declared.Written.the-variants as written
 use Rattle.sha256.specs.State as sha256State
 use Rattle.sha512.specs.State as sha512State
 use Rattle.hmac.specs.State as hmacState
+use Rattle.keys.specs.Kdbx4Keys as keys
 use Rattle.aes_kdf.specs.AesKdf as kdf
+use Rattle.outer_header.specs.declared.Reading.{Reading}
+use Rattle.outer_header.specs.Answers as headerAnswers
+use Rattle.dictionary.specs.declared.Found.{Found}
+use Rattle.dictionary.specs.Answers as dictionaryAnswers
+use Rattle.inner_header.specs.declared.Read.{Read}
+use Rattle.inner_header.specs.declared.Attachment.{Attachment}
+use Rattle.inner_header.specs.Answers as innerAnswers
 
 -- the result where the operation accepts, and the bytes that the array had where it refuses
 abbrev pub resultOr : Outcome → List ℕ → List ℕ → List ℕ
@@ -26,11 +41,34 @@ sha512 m had = resultOr (sha512State.hashed m .outcome) (sha512State.hashed m .d
 abbrev pub hmacSha256 : List ℕ → List ℕ → List ℕ → List ℕ
 hmacSha256 k m had = resultOr (hmacState.tagged k m .outcome) (hmacState.tagged k m .tag) had
 
+abbrev pub compositeOr : keys.Composed → List ℕ → List ℕ
+compositeOr c had = resultOr (c .outcome) (c .key) had
+
 abbrev pub aesKdf : List ℕ → List ℕ → ℕ → List ℕ → List ℕ
 aesKdf composite seed rounds had =
     resultOr (kdf.start composite seed rounds .outcome) (kdf.transformedKey composite seed rounds) had
+
+-- an answer's values where its number is 0, and the figures that stood there where it is a refusal's
+abbrev pub figuresOr : ℕ → List ℕ → List ℕ → List ℕ
+figuresOr number values had = cond (eqb number 0) values had
+
+abbrev pub headerOr : Reading → List ℕ → List ℕ
+headerOr a had = figuresOr (headerAnswers.number a) (headerAnswers.values a) had
+
+abbrev pub foundOr : Found → List ℕ → List ℕ
+foundOr a had = figuresOr (dictionaryAnswers.number a) (dictionaryAnswers.values a) had
+
+abbrev pub innerOr : Read → List ℕ → List ℕ
+innerOr a had = figuresOr (innerAnswers.number a) (innerAnswers.values a) had
+
+abbrev pub attachmentOr : Attachment → List ℕ → List ℕ
+attachmentOr a had = figuresOr (innerAnswers.attachmentNumber a) (innerAnswers.attachmentValues a) had
 
 -- the number of bytes written where the operation accepts, and what stood there where it refuses
 abbrev pub countOr : Written → ℕ → ℕ
 countOr (written.Wrote n) had = n
 countOr (written.Refused r) had = had
+
+-- given where the flag is not 0
+abbrev pub credential : ℕ → List ℕ → keys.Credential
+credential flag s = keys.credential (not (eqb flag 0)) s

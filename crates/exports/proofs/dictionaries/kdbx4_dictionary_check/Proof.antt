@@ -1,0 +1,17 @@
+-- `exports::dictionaries::kdbx4_dictionary_check` meets its contract. Assumes nothing.
+use mathlib.Core.Path.{ap, _∙_}
+use Rattle.refusals.specs.Numbers.{ofOutcome}
+use borrow.Author.Needs.{needs}
+use Rattle.exports.proofs.dictionaries.kdbx4_dictionary_check.Statement.{statement}
+use Rattle.exports.proofs.dictionaries.kdbx4_dictionary_check.Tie as tie
+
+returns : tie.Need-returns
+returns c = c .number .ensures ∙ ap ofOutcome (c .before .check .ensures)
+
+pub kdbx4-dictionary-check-spec : {M : Type 1} → statement M
+kdbx4-dictionary-check-spec =
+    tie.close
+    (tie.spec
+    (λ c κs. search needs)
+    (λ c κs. search needs)
+    returns)

@@ -1,0 +1,29 @@
+-- `exports::inner::kdbx4_attachment` meets its contract. Assumes nothing.
+use mathlib.Core.Path.{sym, ap, _∙_}
+use Rattle.inner_header.specs.Answers.{attachmentNumber, attachmentValues}
+use Rattle.exports.proofs.Laws.{answer-figures, answer-no-figures}
+use borrow.Author.Needs.{needs}
+use Rattle.exports.proofs.inner.kdbx4_attachment.Statement.{statement}
+use Rattle.exports.proofs.inner.kdbx4_attachment.Tie as tie
+
+returns : tie.Need-returns
+returns c =
+    let e = sym (c .before .before .before .before .find-attachment .ensures) ∙ c .before .before .flags .given .1 in
+    answer-figures _ (ap attachmentNumber e) (sym (ap attachmentValues e))
+
+returns-2 : tie.Need-returns-2
+returns-2 c =
+    let e = sym (c .before .before .before .before .find-attachment .ensures) ∙ c .before .before .r .given .1 in
+    answer-no-figures (c .before .before .r .given .0 .0) _ (ap attachmentNumber e) (c .number .ensures)
+
+pub kdbx4-attachment-spec : {M : Type 1} → statement M
+kdbx4-attachment-spec =
+    tie.close
+    (tie.spec
+    (λ c κs. search needs)
+    (λ c. search needs)
+    (λ c. search needs)
+    returns
+    (λ c. search needs)
+    (λ c κs. search needs)
+    returns-2)

@@ -1,0 +1,29 @@
+-- `exports::inner::kdbx4_inner` meets its contract. Assumes nothing.
+use mathlib.Core.Path.{sym, ap, _∙_}
+use Rattle.inner_header.specs.Answers.{number, values}
+use Rattle.exports.proofs.Laws.{answer-figures, answer-no-figures}
+use borrow.Author.Needs.{needs}
+use Rattle.exports.proofs.inner.kdbx4_inner.Statement.{statement}
+use Rattle.exports.proofs.inner.kdbx4_inner.Tie as tie
+
+returns : tie.Need-returns
+returns c =
+    let e = sym (c .before .before .before .before .before .read-header .ensures) ∙ c .before .before .before .h .given .1 in
+    answer-figures _ (ap number e) (sym (ap values e))
+
+returns-2 : tie.Need-returns-2
+returns-2 c =
+    let e = sym (c .before .before .before .before .read-header .ensures) ∙ c .before .before .r .given .1 in
+    answer-no-figures (c .before .before .r .given .0 .0) _ (ap number e) (c .number .ensures)
+
+pub kdbx4-inner-spec : {M : Type 1} → statement M
+kdbx4-inner-spec =
+    tie.close
+    (tie.spec
+    (λ c κs. search needs)
+    (λ c. search needs)
+    (λ c. search needs)
+    returns
+    (λ c. search needs)
+    (λ c κs. search needs)
+    returns-2)

@@ -1,0 +1,74 @@
+// The inner header of a payload (document 01, "Inner header"): what it says and its attachments, as figures, and its writing.
+// The contracts cite crate inner_header's specs/InnerHeader with specs/Answers, and specs/Writer. Refusals: of reading 1, 2, 5
+// to 9; of writing 9, of the run 2, 7 and 5, 1, 17.
+ghost use mathlib.Core.Path.{_≡_};
+ghost use lib.ListN.{length};
+ghost use Rattle.refusals.specs.Numbers as numbers;
+ghost use Rattle.slices.specs.Over.{over};
+ghost use Rattle.inner_header.specs.InnerHeader as kdbx4;
+ghost use Rattle.inner_header.specs.Answers as answers;
+ghost use Rattle.inner_header.specs.Writer as writer;
+ghost use Rattle.exports.specs.Lent as lent;
+use inner_header::Attachment;
+use inner_header::Read;
+use refusals::Written;
+
+// What the inner header of a payload says.
+#[no_mangle]
+pub extern "C" fn kdbx4_inner(payload: &[u8], figures: &mut [u64; 5]) -> u8
+    ensures { λ r. ⌜ r ≡ answers.number (kdbx4.inner (now (payload .entry))) ⌝ }
+    ensures { λ _. ⌜ now (figures .exit) ≡ lent.innerOr (kdbx4.inner (now (payload .entry))) (now (figures .entry)) ⌝ }
+{
+    match inner_header::read_header(payload) {
+        Read::Header(h) => {
+            *figures = [
+                h.algorithm as u64,
+                h.key.start as u64,
+                h.key.length as u64,
+                h.attachments as u64,
+                h.document as u64,
+            ];
+            return 0;
+        }
+        Read::Refused(r) => return r.number(),
+    }
+}
+
+// The flags of an attachment, counted from 0, and the place of its content.
+#[no_mangle]
+pub extern "C" fn kdbx4_attachment(payload: &[u8], index: usize, figures: &mut [u64; 3]) -> u8
+    ensures { λ r. ⌜ r ≡ answers.attachmentNumber (kdbx4.attachment (now (payload .entry)) index) ⌝ }
+    ensures { λ _. ⌜ now (figures .exit) ≡ lent.attachmentOr (kdbx4.attachment (now (payload .entry)) index) (now (figures .entry)) ⌝ }
+{
+    match inner_header::find_attachment(payload, index) {
+        Attachment::At(flags, p) => {
+            *figures = [flags as u64, p.start as u64, p.length as u64];
+            return 0;
+        }
+        Attachment::Refused(r) => return r.number(),
+    }
+}
+
+// The payload of an algorithm, a key, a run of attachments and a document: over the front of `out`, and its length in `count`.
+#[no_mangle]
+pub extern "C" fn kdbx4_inner_write(
+    algorithm: u32,
+    key: &[u8],
+    run: &[u8],
+    document: &[u8],
+    out: &mut [u8],
+    count: &mut usize,
+) -> u8
+    ensures { λ r. ⌜ r ≡ numbers.ofWritten (writer.writing algorithm (now (key .entry)) (now (run .entry)) (now (document .entry)) (length (now (out .entry)))) ⌝ }
+    ensures { λ _. ⌜ now (out .exit) ≡ over (writer.writtenBytes algorithm (now (key .entry)) (now (run .entry)) (now (document .entry)) (length (now (out .entry)))) (now (out .entry)) ⌝ }
+    ensures { λ _. ⌜ now (count .exit) ≡ lent.countOr (writer.writing algorithm (now (key .entry)) (now (run .entry)) (now (document .entry)) (length (now (out .entry)))) (now (count .entry)) ⌝ }
+{
+    let answer = inner_header::writer::write(algorithm, key, run, document, out);
+    match answer {
+        Written::Wrote(n) => {
+            *count = n;
+            return 0;
+        }
+        Written::Refused(r) => return r.number(),
+    }
+}
