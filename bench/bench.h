@@ -3,7 +3,7 @@
 #include <stdlib.h>
 #include <string.h>
 
-#include "kdbx4.h"
+#include "../include/kdbx4.h"
 
 // How a row is counted: WORK, a call of `size` bytes; SLOPE, of many rounds less a call of few; STEP, a call of `size` rounds
 // beside that many rounds of the slope.

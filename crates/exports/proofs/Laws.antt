@@ -2,11 +2,17 @@
 -- definition's, p and y.
 --
 -- In order: answer-accepted, answer-refused; answer-wrote, answer-not-written of an operation that writes into a slice;
--- figuresOr-refused, answer-figures, answer-no-figures of one that answers figures, by its answer's number n.
+-- figuresOr-refused, answer-figures, answer-no-figures of one that answers figures, by its answer's number n; keptOr-wrote,
+-- keptOr-17, keptOr-19, keptOr-next of a step's state, by its number; join-is, two halves as code lays them.
 -- Assumes nothing.
 use mathlib.Core.Path.{_≡_, refl, sym, ap, _∙_}
-use mathlib.Core.List.{List}
+use mathlib.Core.List.{List, _++_}
 use Prim.Native.Nat.{ℕ}
+use lib.ListN.{length, replicate, length-append, length-replicate}
+use borrow.Author.Tests.{ne-eqb}
+use Rattle.slices.specs.Over.{putAt}
+use Rattle.slices.proofs.Laws.Over.{over-whole}
+use Rattle.slices.proofs.Laws.Put.{laid-first, laid-more}
 use Rattle.refusals.specs.Numbers.{ofRefusal, ofOutcome, ofWritten}
 use Rattle.refusals.specs.declared.Refusal.{Refusal}
 use Rattle.refusals.specs.declared.Refusal.the-variants.{
@@ -34,8 +40,7 @@ use Rattle.refusals.specs.declared.Outcome.{Outcome}
 use Rattle.refusals.specs.declared.Outcome.the-variants.{Accepted, Refused}
 use Rattle.refusals.specs.declared.Written.{Written}
 use Rattle.refusals.specs.declared.Written.the-variants as written
-use Rattle.exports.specs.Lent.{resultOr, figuresOr, countOr}
-pub mod Stepping
+use Rattle.exports.specs.Lent.{resultOr, figuresOr, countOr, keptOr}
 
 pub answer-accepted : {o p : Outcome} {x y : List ℕ} (had : List ℕ) → o ≡ p → x ≡ y → o ≡ Accepted
     → (0 ≡ ofOutcome p) × (x ≡ resultOr p y had)
@@ -81,3 +86,23 @@ answer-figures had e f = rw e (refl, f)
 pub answer-no-figures : {n m : ℕ} {had : List ℕ} (r : Refusal) (y : List ℕ) → n ≡ ofRefusal r → m ≡ ofRefusal r
     → (m ≡ n) × (had ≡ figuresOr n y had)
 answer-no-figures {had} r y e f = rw e (f, figuresOr-refused r y had)
+
+pub keptOr-wrote : {k : ℕ} {x y : List ℕ} (had : List ℕ) → 0 ≡ k → x ≡ y → x ≡ keptOr k y had
+keptOr-wrote had e f = rw (sym e) f
+
+pub keptOr-17 : {n k : ℕ} {had : List ℕ} (y : List ℕ) → n ≡ k → n ≡ 17 → had ≡ keptOr k y had
+keptOr-17 y e a = rw (sym e ∙ a)
+
+pub keptOr-19 : {n k : ℕ} {had : List ℕ} (y : List ℕ) → n ≡ k → n ≡ 19 → had ≡ keptOr k y had
+keptOr-19 y e a = rw (sym e ∙ a)
+
+pub keptOr-next : {n k : ℕ} {x y : List ℕ} (had : List ℕ) → n ≡ k → (n ≡ 17 → ⊥) → (n ≡ 19 → ⊥) → x ≡ y
+    → x ≡ keptOr k y had
+keptOr-next {n} had e a b f = rw (sym e, ne-eqb n 17 a, ne-eqb n 19 b) f
+
+pub join-is : (l r y z : List ℕ) → length l ≡ 16 → length r ≡ 16 → y ≡ putAt 0 l (replicate 32 0)
+    → z ≡ putAt 16 r y
+    → z ≡ l ++ r
+join-is l r y z a b e f =
+    let n : length (l ++ r) ≡ length {A = ℕ} (replicate 32 0) = rw (length-append, a, b, length-replicate) in
+    laid-more l r (replicate 32 0) y z 16 a (laid-first l (replicate 32 0) y e) f ∙ over-whole (l ++ r) (replicate 32 0) n

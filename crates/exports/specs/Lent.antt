@@ -4,6 +4,8 @@
 --   resultOr      a result, where the operation accepts
 --   figuresOr     figures, where their answer's number is 0
 --   countOr       a number of bytes, where the operation wrote them
+--   stepped       a step from the state that 410 bytes stand for
+--   keptOr        the bytes of the state after it, by its number; stateOr
 --   credential    the credential that a slice and a flag of C stand for
 -- Assumes nothing.
 use mathlib.Core.Bool.{cond, not}
@@ -14,11 +16,15 @@ use Rattle.refusals.specs.declared.Outcome.{Outcome}
 use Rattle.refusals.specs.declared.Outcome.the-variants.{Accepted, Refused}
 use Rattle.refusals.specs.declared.Written.{Written}
 use Rattle.refusals.specs.declared.Written.the-variants as written
+use Rattle.refusals.specs.Numbers.{ofWritten}
 use Rattle.sha256.specs.State as sha256State
+use Rattle.sha256.specs.declared.Fed.{Fed as Fed256}
 use Rattle.sha512.specs.State as sha512State
+use Rattle.sha512.specs.declared.Fed.{Fed as Fed512}
 use Rattle.hmac.specs.State as hmacState
 use Rattle.keys.specs.Kdbx4Keys as keys
 use Rattle.aes_kdf.specs.AesKdf as kdf
+use Rattle.aes_kdf.specs.declared.Transformed.{Transformed}
 use Rattle.outer_header.specs.declared.Reading.{Reading}
 use Rattle.outer_header.specs.Answers as headerAnswers
 use Rattle.dictionary.specs.declared.Found.{Found}
@@ -26,6 +32,12 @@ use Rattle.dictionary.specs.Answers as dictionaryAnswers
 use Rattle.inner_header.specs.declared.Read.{Read}
 use Rattle.inner_header.specs.declared.Attachment.{Attachment}
 use Rattle.inner_header.specs.Answers as innerAnswers
+use Rattle.opening.specs.declared.Opener.{Opener}
+use Rattle.opening.specs.Runs.{Reply}
+use Rattle.opening.specs.Steps.{stepOf}
+use Rattle.states.specs.Sha256State as sha256Bytes
+use Rattle.states.specs.Sha512State as sha512Bytes
+use Rattle.states.specs.OpenerState as openerBytes
 
 -- the result where the operation accepts, and the bytes that the array had where it refuses
 abbrev pub resultOr : Outcome → List ℕ → List ℕ → List ℕ
@@ -38,6 +50,13 @@ sha256 m had = resultOr (sha256State.hashed m .outcome) (sha256State.hashed m .d
 abbrev pub sha512 : List ℕ → List ℕ → List ℕ
 sha512 m had = resultOr (sha512State.hashed m .outcome) (sha512State.hashed m .digest) had
 
+-- the bytes of the state after a feed
+abbrev pub sha256Fed : Fed256 → List ℕ → List ℕ
+sha256Fed fed had = resultOr (fed .outcome) (sha256Bytes.packed (fed .next)) had
+
+abbrev pub sha512Fed : Fed512 → List ℕ → List ℕ
+sha512Fed fed had = resultOr (fed .outcome) (sha512Bytes.packed (fed .next)) had
+
 abbrev pub hmacSha256 : List ℕ → List ℕ → List ℕ → List ℕ
 hmacSha256 k m had = resultOr (hmacState.tagged k m .outcome) (hmacState.tagged k m .tag) had
 
@@ -47,6 +66,9 @@ compositeOr c had = resultOr (c .outcome) (c .key) had
 abbrev pub aesKdf : List ℕ → List ℕ → ℕ → List ℕ → List ℕ
 aesKdf composite seed rounds had =
     resultOr (kdf.start composite seed rounds .outcome) (kdf.transformedKey composite seed rounds) had
+
+abbrev pub transformedOr : Transformed → List ℕ → List ℕ
+transformedOr t had = resultOr (t .outcome) (t .key) had
 
 -- an answer's values where its number is 0, and the figures that stood there where it is a refusal's
 abbrev pub figuresOr : ℕ → List ℕ → List ℕ → List ℕ
@@ -68,6 +90,17 @@ attachmentOr a had = figuresOr (innerAnswers.attachmentNumber a) (innerAnswers.a
 abbrev pub countOr : Written → ℕ → ℕ
 countOr (written.Wrote n) had = n
 countOr (written.Refused r) had = had
+
+-- a step from the state that the bytes stand for, over a file, with so many bytes lent
+abbrev pub stepped : List ℕ → List ℕ → ℕ → Reply Opener
+stepped bytes file room = stepOf file (openerBytes.unpacked bytes) room
+
+-- "A state handed back with .. 17 or 19 is as it was": its very bytes
+abbrev pub keptOr : ℕ → List ℕ → List ℕ → List ℕ
+keptOr number next had = cond (eqb number 17) had (cond (eqb number 19) had next)
+
+abbrev pub stateOr : Reply Opener → List ℕ → List ℕ
+stateOr q had = keptOr (ofWritten (q .answer .written)) (openerBytes.packed (q .next)) had
 
 -- given where the flag is not 0
 abbrev pub credential : ℕ → List ℕ → keys.Credential

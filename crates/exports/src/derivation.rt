@@ -1,12 +1,17 @@
 // The keys of a vault (document 01, "Keys"): the composite key, AES-KDF, and what T and the master seed give. The contracts cite
-// crate keys' specs/Kdbx4Keys and crate aes_kdf's specs/AesKdf. Refusals: of the composite key 1 and 18, of the rounds 11.
+// crate keys' specs/Kdbx4Keys, crate aes_kdf's specs/AesKdf and crate states' specs/AesKdfState. Refusals: of the composite key
+// 1 and 18, of the rounds 11, of T before the end 19.
 ghost use mathlib.Core.Path.{_≡_};
 ghost use Rattle.refusals.specs.Numbers as numbers;
+ghost use mathlib.Core.List.{_++_};
 ghost use Rattle.aes_kdf.specs.AesKdf as kdf;
+ghost use Rattle.aes_kdf.specs.State as transformation;
+ghost use Rattle.states.specs.AesKdfState as kdfState;
 ghost use Rattle.keys.specs.Kdbx4Keys as kdbx4;
 ghost use Rattle.exports.specs.Lent as lent;
 use aes_kdf::Transformation;
 use refusals::Outcome;
+use states::aes_kdf_state;
 
 // The composite key of a password, a key file or both, or a pre-hash. A credential is given where its flag is not 0.
 #[no_mangle]
@@ -57,6 +62,74 @@ pub extern "C" fn kdbx4_aes_kdf(
     let next = started.next;
     if let Outcome::Accepted = outcome {
         let key = next.advance(rounds).finish().key;
+        *out = key;
+        return 0;
+    }
+    outcome.number()
+}
+
+// Starts AES-KDF in parts. Rounds over the limit give a state that only 19 comes of.
+#[no_mangle]
+pub extern "C" fn kdbx4_aes_kdf_start(
+    composite: &[u8; 32],
+    seed: &[u8; 32],
+    rounds: u64,
+    state: &mut [u8; 281],
+) -> u8
+    ensures { λ r. ⌜ r ≡ numbers.ofOutcome (kdf.start (now (composite .entry)) (now (seed .entry)) rounds .outcome) ⌝ }
+    ensures { λ _. ⌜ now (state .exit) ≡ kdfState.packed (transformation.started (now (composite .entry)) (now (seed .entry)) rounds .next) ⌝ }
+{
+    let c = *composite;
+    let s = *seed;
+    let started = Transformation::start(c, s, rounds);
+    let outcome = started.outcome;
+    let next = started.next;
+    *state = aes_kdf_state::pack(next);
+    outcome.number()
+}
+
+// The two halves of a key, joined.
+fn join(left: [u8; 16], right: [u8; 16]) -> [u8; 32]
+    ensures { λ r. ⌜ r ≡ left ++ right ⌝ }
+{
+    let mut both = [0u8; 32];
+    slices::put(&mut both, 0, &left);
+    slices::put(&mut both, 16, &right);
+    both
+}
+
+// At most n rounds more: how many were done in all, and the halves after so many.
+#[no_mangle]
+pub extern "C" fn kdbx4_aes_kdf_advance(
+    state: &mut [u8; 281],
+    n: u64,
+    done: &mut u32,
+    halves: &mut [u8; 32],
+)
+    ensures { λ _. ⌜ now (state .exit) ≡ kdfState.packed (transformation.advanced n (kdfState.unpacked (now (state .entry)))) ⌝ }
+    ensures { λ _. ⌜ now (done .exit) ≡ transformation.advanced n (kdfState.unpacked (now (state .entry))) .done ⌝ }
+    ensures { λ _. ⌜ now (halves .exit) ≡ transformation.advanced n (kdfState.unpacked (now (state .entry))) .left ++ transformation.advanced n (kdfState.unpacked (now (state .entry))) .right ⌝ }
+{
+    let bytes = *state;
+    let next = aes_kdf_state::unpack(bytes).advance(n);
+    let left = next.left;
+    let right = next.right;
+    *done = next.done;
+    *halves = join(left, right);
+    *state = aes_kdf_state::pack(next);
+}
+
+// The transformed key T, once all rounds are done.
+#[no_mangle]
+pub extern "C" fn kdbx4_aes_kdf_finish(state: &[u8; 281], out: &mut [u8; 32]) -> u8
+    ensures { λ r. ⌜ r ≡ numbers.ofOutcome (transformation.finished (kdfState.unpacked (now (state .entry))) .outcome) ⌝ }
+    ensures { λ _. ⌜ now (out .exit) ≡ lent.transformedOr (transformation.finished (kdfState.unpacked (now (state .entry)))) (now (out .entry)) ⌝ }
+{
+    let bytes = *state;
+    let finished = aes_kdf_state::unpack(bytes).finish();
+    let outcome = finished.outcome;
+    let key = finished.key;
+    if let Outcome::Accepted = outcome {
         *out = key;
         return 0;
     }

@@ -1,18 +1,17 @@
-// Vaults under the transformed key T (document 01, "File after the header"). The contracts cite the definitions of crates vault,
-// opening and writer. Refusals: of opening 1 to 17, of writing 4, 9, 5, 11, 10 or 6, 1, 17.
+// Vaults under the transformed key T (document 01, "File after the header"): opening whole, and block by block over a state that
+// is lent as bytes; writing. The contracts cite the definitions of crates vault, opening, states and writer. Refusals: of opening
+// 1 to 17, of the start 1 to 13, of a step 19, 1, 2, 5, 14 to 17, of writing 4, 9, 5, 11, 10 or 6, 1, 17.
 ghost use mathlib.Core.Path.{_≡_};
 ghost use lib.ListN.{length};
 ghost use Rattle.refusals.specs.Numbers as numbers;
 ghost use Rattle.slices.specs.Over.{over};
 ghost use Rattle.opening.specs.Whole as whole;
 ghost use Rattle.vault.specs.Vault as vault;
+ghost use Rattle.states.specs.OpenerState as openerState;
 ghost use Rattle.writer.specs.Written as kdbx4;
 ghost use Rattle.exports.specs.Lent as lent;
-ghost use Rattle.exports.specs.Stepping as stepping;
-use opening::Opener;
-use opening::Phase;
-use refusals::Outcome;
 use refusals::Written;
+use states::opener_state;
 
 // Opens a vault whole under the transformed key T: the payload over the front of `out`, and its length in `count`.
 #[no_mangle]
@@ -32,47 +31,55 @@ pub extern "C" fn kdbx4_open(file: &[u8], t: &[u8; 32], out: &mut [u8], count: &
     }
 }
 
-// Steps one after the other from a state, each lent the part of `out` behind what the others wrote.
-fn run_steps(first: Opener, f: &[u8], out: &mut [u8]) -> u8
-    ensures { λ r. ⌜ r ≡ stepping.stepping (length (now (f .entry))) (now (f .entry)) first (length (now (out .entry))) .number ⌝ }
-    ensures { λ _. ⌜ now (out .exit) ≡ over (stepping.stepping (length (now (f .entry))) (now (f .entry)) first (length (now (out .entry))) .bytes) (now (out .entry)) ⌝ }
-{
-    let mut o = first;
-    let mut at: usize = 0;
-    let mut left = f.len();
-    while left > 0 {
-        let s = opener::step(o, f, &mut out[at..]);
-        let answer = s.answer;
-        let next = s.next;
-        let phase = next.phase;
-        match answer {
-            Written::Refused(r) => return r.number(),
-            Written::Wrote(n) => {
-                if let Phase::Ended = phase {
-                    return 0;
-                }
-                at += n;
-                o = next;
-                left -= 1;
-            }
-        }
-    }
-    2
-}
-
-// Opens a vault block by block in one call: the start, then the steps. What a step handed over stays where a later one refuses.
+// Starts a block-by-block opening: the checks up to the header's tag, and the state. A refused start gives a closed state.
 #[no_mangle]
-pub extern "C" fn kdbx4_open_steps(file: &[u8], t: &[u8; 32], out: &mut [u8]) -> u8
-    ensures { λ r. ⌜ r ≡ stepping.ranFrom (now (t .entry)) (now (file .entry)) (length (now (out .entry))) .number ⌝ }
-    ensures { λ _. ⌜ now (out .exit) ≡ over (stepping.ranFrom (now (t .entry)) (now (file .entry)) (length (now (out .entry))) .bytes) (now (out .entry)) ⌝ }
+pub extern "C" fn kdbx4_start(file: &[u8], t: &[u8; 32], state: &mut [u8; 410]) -> u8
+    ensures { λ r. ⌜ r ≡ numbers.ofOutcome (vault.outcomeOf (vault.start (now (t .entry)) (now (file .entry)))) ⌝ }
+    ensures { λ _. ⌜ now (state .exit) ≡ openerState.packed (vault.stateOf (vault.start (now (t .entry)) (now (file .entry)))) ⌝ }
 {
     let key = *t;
     let s = vault::start(file, key);
     let outcome = s.outcome;
-    let first = s.next;
-    match outcome {
-        Outcome::Refused(r) => return r.number(),
-        Outcome::Accepted => return run_steps(first, file, out),
+    let next = s.next;
+    *state = opener_state::pack(next);
+    outcome.number()
+}
+
+// Takes the next block: what it makes due over the front of `out`, and its length in `count`. 17 and 19 leave the state.
+#[no_mangle]
+pub extern "C" fn kdbx4_step(
+    state: &mut [u8; 410],
+    file: &[u8],
+    out: &mut [u8],
+    count: &mut usize,
+) -> u8
+    ensures { λ r. ⌜ r ≡ numbers.ofWritten (lent.stepped (now (state .entry)) (now (file .entry)) (length (now (out .entry))) .answer .written) ⌝ }
+    ensures { λ _. ⌜ now (state .exit) ≡ lent.stateOr (lent.stepped (now (state .entry)) (now (file .entry)) (length (now (out .entry)))) (now (state .entry)) ⌝ }
+    ensures { λ _. ⌜ now (out .exit) ≡ over (lent.stepped (now (state .entry)) (now (file .entry)) (length (now (out .entry))) .answer .bytes) (now (out .entry)) ⌝ }
+    ensures { λ _. ⌜ now (count .exit) ≡ lent.countOr (lent.stepped (now (state .entry)) (now (file .entry)) (length (now (out .entry))) .answer .written) (now (count .entry)) ⌝ }
+{
+    let bytes = *state;
+    let o = opener_state::unpack(bytes);
+    let s = opener::step(o, file, out);
+    let answer = s.answer;
+    let next = s.next;
+    match answer {
+        Written::Wrote(n) => {
+            *state = opener_state::pack(next);
+            *count = n;
+            return 0;
+        }
+        Written::Refused(r) => {
+            let number = r.number();
+            if number == 17 {
+                return number;
+            }
+            if number == 19 {
+                return number;
+            }
+            *state = opener_state::pack(next);
+            return number;
+        }
     }
 }
 
@@ -109,8 +116,8 @@ pub extern "C" fn kdbx4_write(
         out,
     );
     match answer {
-        Written::Wrote(n) => {
-            *count = n;
+        Written::Wrote(length) => {
+            *count = length;
             return 0;
         }
         Written::Refused(r) => return r.number(),
