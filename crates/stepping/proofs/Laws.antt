@@ -1,0 +1,2 @@
+-- Laws of steps one after the other.
+pub mod Stepping
