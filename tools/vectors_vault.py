@@ -499,6 +499,7 @@ def main(folder):
     (crate / "stdout").write_text("".join(f"{line}\n" for line in cases.rows))
 
 
-if len(sys.argv) != 2:
-    sys.exit(__doc__)
-main(pathlib.Path(sys.argv[1]))
+if __name__ == "__main__":
+    if len(sys.argv) != 2:
+        sys.exit(__doc__)
+    main(pathlib.Path(sys.argv[1]))
