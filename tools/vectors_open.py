@@ -1,0 +1,154 @@
+#!/usr/bin/env python3
+"""Write what crates/open and crates/vectors_open are run on and must print:   tools/vectors_open.py FIXTURES
+
+FIXTURES is the folder of vaults that other programs wrote, with its manifest.json and keys/: who does not have it
+cannot run this script, and needs only the files that it writes. The other vaults are crates/open/data/bench.kdbx, which
+tools/sample.py made, damaged copies of it, and two that are made here. Numbers, documents and hashes come from the
+openers of vectors_vault.py, with T by the AES of the package cryptography, which is OpenSSL; the documents of the
+vaults in FIXTURES are compared with the manifest's hashes. The number expected of each case is told beside it, by hand.
+The sentences are the indented lines of docs/REFUSALS.md, so that the gate holds the program to that page.
+"""
+import json
+import pathlib
+import sys
+
+from header_model import CHACHA20, SIGNATURES, Refused, int32, need, read_header, sound_items
+from sample import PASSWORD, transformed
+from vaults import text_field
+from vectors_vault import AES, Keys, blocks, flipped, front, header, must, open_whole, sha256, text_of
+
+ROOT = pathlib.Path(__file__).parent.parent
+BENCH = ROOT / "crates" / "open" / "data" / "bench.kdbx"
+PROGRAM_LIMIT = 65_536
+FILE_LIMIT = 4_194_304
+
+
+def sentences():
+    """The program's line for each number, from docs/REFUSALS.md."""
+    page = (ROOT / "docs" / "REFUSALS.md").read_text().splitlines()
+    lines = [line[4:] for line in page if line.startswith("    Refused ")]
+    must([line.split(":")[0] for line in lines] == [f"Refused {n}" for n in range(1, 20)], "docs/REFUSALS.md")
+    return lines
+
+
+def composite(password, key_file):
+    parts = [] if password is None else [sha256(password)]
+    if key_file is not None:
+        parts.append(key_file if len(key_file) == 32 else sha256(key_file))
+    need(parts, 18)
+    return sha256(*parts)
+
+
+def document_of(payload):
+    """What stands behind the inner header."""
+    at, seen = 0, {}
+    while 0 not in seen:
+        need(at + 5 <= len(payload), 2)
+        id_, size = payload[at], int32(payload, at + 1)
+        need(size >= 0, 5)
+        need(at + 5 + size <= len(payload), 2)
+        seen[id_] = payload[at + 5 : at + 5 + size]
+        at += 5 + size
+    need({1, 2} <= seen.keys(), 8)
+    return payload[at:]
+
+
+def unlocked(f, password, key_file):
+    need(len(f) <= PROGRAM_LIMIT, 1)
+    key = composite(password, key_file)
+    values, _ = read_header(f, FILE_LIMIT)
+    items = sound_items(values[11])
+    t = transformed(key, items[b"S"][1], int.from_bytes(items[b"R"][1], "little"))
+    return document_of(open_whole(f, t, PROGRAM_LIMIT))
+
+
+class Cases:
+    def __init__(self, folder):
+        self.folder, self.lines, self.table, self.rows = folder, sentences(), [], []
+        folder.mkdir(exist_ok=True)
+        for old in folder.iterdir():
+            old.unlink()
+
+    def case(self, name, expected, f, password, key_file=None, file=None):
+        """A vault with its credentials, and the number of its opening; the document."""
+        file = f"{name}.kdbx" if file is None else file
+        (self.folder / file).write_bytes(f)
+        self.table.append(f"{name} {file} {text_field(password)} {text_field(key_file)}")
+        try:
+            no, document = 0, unlocked(f, password, key_file)
+        except Refused as r:
+            no, document = r.args[0], None
+        must(no == expected, (name, no, expected))
+        if no:
+            self.rows.append(f"{name} {self.lines[no - 1]}")
+        else:
+            self.rows.append(f"document {name} {len(document)} 0 {sha256(document).hex()}")
+        return document
+
+
+def others(cases, folder):
+    """Vaults of other programs: password, empty password, key file, both; and three that are refused."""
+    entries = {entry["file"]: entry for entry in json.loads((folder / "manifest.json").read_text("utf-8"))}
+    for file, expected in (
+        ("kp2-v40-aes-aeskdf-pw.kdbx", 0), ("xc-v41-chacha-aeskdf-empty.kdbx", 0),
+        ("py-v40-chacha-aeskdf-kf32.kdbx", 0), ("py-v41-aes-aeskdf-pwkf.kdbx", 0), ("v41-aes-aeskdf-kfother.kdbx", 0),
+        ("xc-v41-aes-argon2id-pw.kdbx", 9), ("rounds-4000001.kdbx", 11), ("unpatched-aes.kdbx", 5),
+    ):
+        entry, f = entries[file], (folder / file).read_bytes()
+        password = entry["password"].encode("utf-8") if "password" in entry else None
+        key_file = (folder / entry["keyfile"]).read_bytes() if "keyfile" in entry else None
+        document = cases.case(file.removesuffix(".kdbx"), expected, f, password, key_file)
+        must(document is None or sha256(document).hex() == entry["document_sha256"], file)
+
+
+def bench(cases):
+    """The sample vault, opened; with other credentials; damaged."""
+    f, password = BENCH.read_bytes(), PASSWORD.encode()
+    _, frames = read_header(f, FILE_LIMIT)
+    n = len(b"".join(frames))
+    document = cases.case("bench", 0, f, password)
+    cases.case("wrong_password", 13, f, b"open the bank", file="bench.kdbx")
+    cases.case("empty_password", 13, f, b"", file="bench.kdbx")
+    cases.case("key_file_too", 13, f, password, b"key", file="bench.kdbx")
+    cases.case("no_credential", 18, f, None, file="bench.kdbx")
+    changed = flipped(f, n - 20)
+    cases.case("damaged_header", 12, changed, password)
+    cases.case("changed_header", 13, changed[:n] + sha256(changed[:n]) + f[n + 32 :], password)
+    cases.case("flipped_block", 14, flipped(f, n + 64 + 36 + 1000), password)
+    cases.case("cut_header", 2, f[: n - 3], password)
+    cases.case("cut_block", 2, f[: n + 64 + 36 + 1000], password)
+    cases.case("one_byte_more", 15, f + b"\0", password)
+    cases.case("longest", 15, f.ljust(PROGRAM_LIMIT, b"\0"), password)
+    cases.case("too_long", 1, f.ljust(PROGRAM_LIMIT + 1, b"\0"), password)
+    cases.case("not_a_vault", 3, b"Unlock codes: ask at the desk.\n", password)
+    cases.case("version_3", 4, SIGNATURES + b"\1\0\3\0", password)
+    return document
+
+
+def made(cases):
+    """Vaults that are tagged rightly and end wrongly, of one round."""
+    t = transformed(composite(b"a", None), b"\x33" * 32, 1)
+    a, c = Keys(AES, bytes(16), bytes(32), t), Keys(CHACHA20, bytes(12), bytes(32), t)
+    wrong = a.crypt(bytes(16), False)
+    cases.case("wrong_padding", 16, front(a, header(a, f4=bytes(32))) + blocks(a, wrong, [16]), b"a")
+    cases.case("no_inner_header", 2, front(c, header(c, f4=bytes(32))) + blocks(c, text_of(c, b"xml"), [16]), b"a")
+
+
+def main(folder):
+    crate = ROOT / "crates" / "vectors_open"
+    cases = Cases(crate / "data")
+    others(cases, folder)
+    document = bench(cases)
+    made(cases)
+    (crate / "stdin").write_text("".join(f"{line}\n" for line in cases.table))
+    (crate / "stdout").write_text("".join(f"{line}\n" for line in cases.rows + cases.lines))
+    crate = ROOT / "crates" / "open"
+    (crate / "args").write_text("bench.kdbx\n")
+    (crate / "stdin").write_text(f"{PASSWORD}\n")
+    (crate / "stdout").write_bytes(document)
+
+
+if __name__ == "__main__":
+    if len(sys.argv) != 2:
+        sys.exit(__doc__)
+    main(pathlib.Path(sys.argv[1]))
