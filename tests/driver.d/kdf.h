@@ -1,0 +1,20 @@
+/* The kinds of key derivation, told apart here alone. */
+#ifndef KDF_H
+#define KDF_H
+
+#include "request.h"
+
+/* What a request to write has beside its KDF. */
+typedef struct {
+    uint16_t minor;
+    slice cipher, seed, nonce, custom, payload;
+    const uint8_t *t;
+} vault_asked;
+
+/* Answers `kdf`: what an accepted header says of its KDF. */
+void answer_kdf(request *q, slice file, const kdbx4_header_figures *figures);
+
+/* Writes a vault under the KDF of the request's field `kdf`: the library's number. */
+uint8_t write_under_kdf(request *q, const vault_asked *v, uint8_t *out, size_t room, size_t *count);
+
+#endif
