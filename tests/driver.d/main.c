@@ -48,10 +48,20 @@ static const struct {
     const char *name;
     void (*answer)(request *q);
 } operations[] = {
-    {"header", op_header},         {"list", op_list},     {"dict", op_dict},       {"lookup", op_lookup},
-    {"composite", op_composite},   {"rounds", op_rounds}, {"keys", op_keys},       {"hash", op_hash},
-    {"tag", op_tag},               {"open", op_open},     {"steps", op_steps},     {"write", op_write},
-    {"inner", op_inner},           {"attachment", op_attachment},
+    {"header", op_header},
+    {"list", op_list},
+    {"dict", op_dict},
+    {"lookup", op_lookup},
+    {"composite", op_composite},
+    {"rounds", op_rounds},
+    {"keys", op_keys},
+    {"hash", op_hash},
+    {"tag", op_tag},
+    {"open", op_open},
+    {"steps", op_steps},
+    {"write", op_write},
+    {"inner", op_inner},
+    {"attachment", op_attachment},
     {"inner_write", op_inner_write},
 };
 

@@ -35,9 +35,9 @@ _Noreturn void request_fault(request *q, const char *format, ...);
 /* Frees what was lent after the block `last`, which is what `blocks` was then; with NULL, all. */
 void request_free(request *q, const struct block *last);
 
-/* ---- Fields. One that is absent, of another kind or too large is a fault; `find` answers NULL for an absent one ---- */
+/* ---- Fields: one that is absent, of another kind or out of range is a fault ---- */
 
-const json_value *field_find(const json_value *object, const char *name);
+const json_value *field_find(const json_value *object, const char *name); /* NULL where it is absent */
 const json_value *field_array(request *q, const char *name);
 const json_value *field_object(request *q, const char *name);
 uint64_t field_number(request *q, const json_value *object, const char *name, uint64_t most);

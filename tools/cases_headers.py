@@ -1,0 +1,145 @@
+"""Cases of the outer header, its listing and dictionaries.
+
+The numbers are told by hand, from document 01; its worked listing stands here as it has it. What the headers of other
+programs' vaults say is the manifest's, or read from the fields.
+"""
+from case_list import KDF_SEED, NONCE, SEED, field, must
+from vectors_writer import AES, AES_KDF, CHACHA20, CUSTOM, DICTIONARIES, ITEM, dictionary, header_of, item, le
+
+
+def kdf(uuid=AES_KDF, rounds=1, seed=KDF_SEED, more=b""):
+    return dictionary(item(0x42, b"$UUID", uuid), item(5, b"R", le(rounds, 8)), item(0x42, b"S", seed), more)
+
+
+# The header of document 01's worked listing.
+FIELDS = {2: CHACHA20, 3: bytes(4), 4: SEED, 7: NONCE[:12], 11: kdf()}
+FRONT = bytes.fromhex("03D9A29A67FB4BB501000400")
+END = field(0, b"\r\n\r\n")
+LISTING = """\
+03D9A29A67FB4BB501000400
+0210000000D6038A2B8B6F4CB5A524339A31DBB59A
+030400000000000000
+04200000001111111111111111111111111111111111111111111111111111111111111111
+070C000000222222222222222222222222
+0B5D00000000014205000000245555494410000000C9D9F39A628A4460BF740D08C18A4FEA05010000005208000000010000000000000042010000\
+005320000000333333333333333333333333333333333333333333333333333333333333333300
+00040000000D0A0D0A
+"""
+
+
+def header(front=FRONT, more=b"", end=END, **changed):
+    """The worked header; f2=VALUE replaces field 2, None leaves it out; `more` stands in front of the end field."""
+    values = FIELDS | {int(name[1:]): value for name, value in changed.items()}
+    return front + b"".join(field(id_, value) for id_, value in values.items() if value is not None) + more + end
+
+
+def spans(head):
+    """The places of a header's fields, by ID."""
+    found, at = {}, 12
+    while 0 not in found:
+        size = int.from_bytes(head[at + 1 : at + 5], "little")
+        found[head[at]] = [at + 5, size]
+        at += 5 + size
+    must(at == len(head), "header")
+    return found
+
+
+def figures(head, minor, cipher, rounds):
+    places = spans(head)
+    value = {id_: head[start : start + size] for id_, (start, size) in places.items()}
+    must(value[2] == {"aes": AES, "chacha": CHACHA20}[cipher], cipher)
+    seed_at = value[11].index(bytes.fromhex("42010000005320000000")) + 10
+    return {
+        "minor": minor,
+        "cipher": cipher,
+        "length": len(head),
+        "seed": value[4],
+        "nonce": value[7],
+        "kdf": {"kind": "aeskdf", "S": value[11][seed_at : seed_at + 32], "R": rounds},
+        "kdf_span": places[11],
+        "custom_span": places.get(12),
+    }
+
+
+# What is wrong with a header: its number, and the header.
+WRONG_HEADERS = {
+    "empty": (2, b""),
+    "eleven bytes": (2, b"anything at"),
+    "no field": (2, FRONT),
+    "cut in a value": (2, header()[:60]),
+    "cut before its last byte": (2, header()[:-1]),
+    "custom of 7FFFFFFF": (2, header(end=field(12, b"", 0x7FFFFFFF))),
+    "second signature": (3, header(front=FRONT[:4] + FRONT[:4] + FRONT[8:])),
+    "signature and version": (3, header(front=bytes(12))),
+    "version 4.2": (4, header(front=FRONT[:8] + le(0x40002, 4))),
+    "version 3.1": (4, header(front=FRONT[:8] + le(0x30001, 4))),
+    "custom of FFFFFFFF": (5, header(end=field(12, b"", -1))),
+    "seed of 31": (5, header(f4=SEED[:31])),
+    "end bytes": (5, header(end=field(0, b"\r\n\r\0"))),
+    "end of size 0": (5, header(end=field(0, b""))),
+    "nonce of the other cipher": (5, header(f7=NONCE)),
+    "second seed": (6, header(more=field(4, SEED))),
+    "second seed of wrong size": (6, header(more=field(4, b""))),
+    "second name in the KDF dictionary": (6, header(f11=kdf(more=item(4, b"R", bytes(4))))),
+    "field 1": (7, header(more=field(1, b""))),
+    "no nonce": (8, header(f7=None)),
+    "no KDF, unlisted cipher": (8, header(f11=None, f2=bytes(16))),
+    "unlisted cipher": (9, header(f2=bytes(16))),
+    "compressed": (9, header(f3=le(1, 4))),
+    "compressed, nonce of the other cipher": (9, header(f3=le(1, 4), f7=NONCE)),
+    "unlisted KDF": (9, header(f11=kdf(uuid=bytes(16)))),
+    "KDF seed of 31": (10, header(f11=kdf(seed=bytes(31)))),
+    "custom of size 0": (10, header(f12=b"")),
+    "rounds over": (11, header(f11=kdf(rounds=4_000_001))),
+    "rounds over, custom broken": (11, header(f11=kdf(rounds=4_000_001), f12=b"")),
+}
+
+
+def headers(cases, entries):
+    must(len(header()) == 203 and len(FIELDS[11]) == 93, "worked lengths")
+    worked = figures(header(), 1, "chacha", 1)
+    cases.add("header", "worked", worked, data=header())
+    cases.add("header", "worked, bytes behind", worked, data=header() + b"behind")
+    most = header(f11=kdf(rounds=4_000_000))
+    cases.add("header", "most rounds", figures(most, 1, "chacha", 4_000_000), data=most)
+    aes = header_of(0, AES, SEED, NONCE, KDF_SEED, 0, b"")
+    must(len(aes) == 207, "AES header")
+    cases.add("header", "AES, no rounds", figures(aes, 0, "aes", 0), data=aes)
+    for name, (no, data) in WRONG_HEADERS.items():
+        cases.add("header", name, no, data=data)
+    cases.add("list", "worked", {"text": LISTING}, data=header() + b"behind")
+    for name in ("empty", "eleven bytes", "version 4.2", "rounds over"):
+        no, data = WRONG_HEADERS[name]
+        cases.add("list", name, {"text": f"R{no:02}\n"}, data=data)
+    for vault, entry in entries:
+        if "expect" in entry:
+            cases.add("header", vault.name, entry["expect"], data=vault.header)
+            continue
+        rounds = int.from_bytes(vault.kdf[b"R"], "little")
+        must(rounds == entry.get("R", rounds), vault.name)
+        said = figures(vault.header, int(entry["version"][2:]), entry["cipher"], rounds)
+        cases.add("header", vault.name, said, data=vault.header)
+
+
+def dictionaries(cases):
+    for name, (no, data) in DICTIONARIES.items():
+        cases.add("dict", name, no, data=data)
+        if no:
+            cases.add("lookup", name, no, data=data, name=b"name")
+    cases.add("dict", "all types", 0, data=CUSTOM)
+    cases.add("dict", "no bytes", 10, data=b"")
+    for name, value in ((b"name", b"value"), (b"u32", le(7, 4)), (b"bool", b"\1"), (b"i64", b"\xff" * 8)):
+        at = CUSTOM.index(le(len(name), 4) + name + le(len(value), 4)) + 8 + len(name)
+        found = {"found": True, "at": at, "size": len(value), "value": value}
+        cases.add("lookup", name.decode(), found, data=CUSTOM, name=name)
+    empty = {"found": True, "at": len(CUSTOM) - 1, "size": 0, "value": b""}
+    cases.add("lookup", "empty name and value", empty, data=CUSTOM, name=b"")
+    for name in (b"nam", b"name\0", b"value"):
+        cases.add("lookup", f"no {name}", {"found": False}, data=CUSTOM, name=name)
+    cases.add("lookup", "none in the least dictionary", {"found": False}, data=dictionary(), name=b"")
+    cases.add("lookup", "sound, then broken", 10, data=dictionary(ITEM)[:-1], name=b"name")
+
+
+def add_all(cases, entries):
+    headers(cases, entries)
+    dictionaries(cases)
