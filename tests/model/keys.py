@@ -1,0 +1,81 @@
+"""Keys (document 01, "Keys")."""
+
+from .limits import AFTER_END, CREDENTIAL, FILE_LIMIT, ROUNDS, ROUNDS_LIMIT, require, within
+from .primitives import aes_blocks, hmac_sha256, sha256, sha512
+
+HEADER_NUMBER = 2**64 - 1
+
+
+def composite(password, key_file, pre_hash):
+    """The composite key; None is an absent credential. "Order: lengths (1), then 18"."""
+    for part in (password, key_file):
+        if part is not None:
+            within(len(part), FILE_LIMIT)
+    if pre_hash is not None:
+        # "pre-hash not 32 bytes, or given with another" is 18. "A pre-hash is the composite key itself."
+        require(password is None and key_file is None and len(pre_hash) == 32, CREDENTIAL)
+        return pre_hash
+    parts = []
+    if password is not None:
+        # "Password gives SHA-256 of its bytes"; "an empty password is a part".
+        parts.append(sha256(password))
+    if key_file is not None:
+        # "A key file of 32 bytes is taken as it stands; of any other length it is hashed with SHA-256".
+        parts.append(key_file if len(key_file) == 32 else sha256(key_file))
+    require(parts, CREDENTIAL)
+    # "The composite key is SHA-256 of the parts given, password first."
+    return sha256(*parts)
+
+
+class Rounds:
+    """AES-KDF in helpings: "encrypts each 16-byte half of the composite key R times under AES-256 with key `S`"."""
+
+    def __init__(self, composite_key, seed, rounds):
+        require(rounds <= ROUNDS_LIMIT, ROUNDS)  # "starting the rounds checks 11"
+        self.encrypt = aes_blocks(seed)
+        self.halves = composite_key
+        self.rounds = rounds
+        self.done = 0
+
+    def helping(self, count):
+        """ "a helping of n does the lesser of n and what remains"."""
+        for _ in range(min(count, self.rounds - self.done)):
+            self.halves = self.encrypt(self.halves)
+            self.done += 1
+
+    def transformed(self):
+        """ "T is SHA-256 of the two results joined"; "T before the end is 19"."""
+        require(self.done == self.rounds, AFTER_END)
+        return sha256(self.halves)
+
+
+def transformed(composite_key, seed, rounds):
+    """T in one helping."""
+    run = Rounds(composite_key, seed, rounds)
+    run.helping(rounds)
+    return run.transformed()
+
+
+def cipher_key(master_seed, t):
+    """ "The cipher key is SHA-256(S, T)." """
+    return sha256(master_seed, t)
+
+
+def tag_base(master_seed, t):
+    """ "The tag base is SHA-512(S, T, 01)." """
+    return sha512(master_seed, t, b"\x01")
+
+
+def tag_key(number, base):
+    """ "The tag key for number i is SHA-512(i as UInt64, base)." """
+    return sha512(number.to_bytes(8, "little"), base)
+
+
+def header_tag(base, header_bytes):
+    """ "its HMAC-SHA-256 under the key for 2^64-1"."""
+    return hmac_sha256(tag_key(HEADER_NUMBER, base), header_bytes)
+
+
+def block_tag(base, number, size, data):
+    """ "Block i from 0 is tagged over i, size, data under key i." The size comes as its four bytes."""
+    return hmac_sha256(tag_key(number, base), number.to_bytes(8, "little") + size + data)
