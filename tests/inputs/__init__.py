@@ -1,0 +1,5 @@
+"""Inputs for the differential run: sound requests, and edits of them that reach every refusal number.
+
+In order: shapes (the parts of a file, as they are before they become bytes), edits (one fault or harmless change each),
+requests (one random request of each operation), borders (the few large requests at the limits).
+"""

@@ -1,0 +1,205 @@
+"""The few large requests: at each limit of document 01, and one past it."""
+
+from model.limits import FILE_LIMIT, MESSAGE_LIMIT, PROGRAM_LIMIT
+
+from .shapes import Block, Dictionary, Field, Item, sound_inner, sound_vault
+
+
+def filled(data, length):
+    """The data with zeros behind it, to that length."""
+    return data + bytes(length - len(data))
+
+
+def header_of(op, length):
+    """A sound header in a file of that length."""
+    return lambda rng: {"op": op, "data": filled(sound_vault(rng).header.octets(), length).hex()}
+
+
+def not_a_file(op, length):
+    """Zeros over the limit: the length is judged first."""
+    return lambda rng: {"op": op, "data": bytes(length).hex(), "T": bytes(32).hex(), "lents": [0, 0]}
+
+
+def large_vault(rng, length, blocks):
+    """A ChaCha20 file of exactly that length, in so many data blocks."""
+    made = sound_vault(rng)
+    while made.cipher != "chacha":
+        made = sound_vault(rng)
+    text = rng.randbytes(length - len(made.header.octets()) - 64 - 36 * (blocks + 1))
+    size = -(-len(text) // blocks)
+    made.blocks = [Block(text[size * place : size * (place + 1)]) for place in range(blocks)] + [Block(b"")]
+    return made
+
+
+def open_of(length, room):
+    """The whole opener at a file's length, with room for all of it or for less."""
+
+    def make(rng):
+        made = large_vault(rng, length, 4)
+        return {"op": "open", "data": made.octets().hex(), "T": made.t.hex(), "lent": room}
+
+    return make
+
+
+def steps_of(length, file_lengths):
+    """Steps over a file of that length."""
+
+    def make(rng):
+        made = large_vault(rng, length, 3)
+        lents = [0, FILE_LIMIT, 5, FILE_LIMIT, FILE_LIMIT, 0, 0]
+        request = {"op": "steps", "data": made.octets().hex(), "T": made.t.hex(), "lents": lents}
+        if file_lengths:
+            request["file_lengths"] = file_lengths
+        return request
+
+    return make
+
+
+def write_of(cipher, payload, custom, lent):
+    """The writer, with that length of payload and a custom dictionary of that length."""
+
+    def make(rng):
+        made = {
+            "op": "write",
+            "minor": 1,
+            "cipher": cipher,
+            "seed": rng.randbytes(32).hex(),
+            "nonce": rng.randbytes({"aes": 16, "chacha": 12}[cipher]).hex(),
+            "kdf": {"kind": "aeskdf", "S": rng.randbytes(32).hex(), "R": 1},
+            "T": rng.randbytes(32).hex(),
+            "data": rng.randbytes(payload).hex(),
+        }
+        if custom:
+            made["custom"] = custom.hex()
+        if lent is not None:
+            made["lent"] = lent
+        return made
+
+    return make
+
+
+def largest_payload(cipher):
+    """The longest payload whose file, with blocks of 16,384, is within the limit."""
+    front = {"aes": 207, "chacha": 203}[cipher] + 64 + 36
+    left = FILE_LIMIT - front
+    full, rest = divmod(left, 16_384 + 36)
+    text = 16_384 * full + max(0, rest - 36)
+    return text if cipher == "chacha" else text // 16 * 16 - 1
+
+
+def dictionary_of(length):
+    """A sound dictionary of that length with a single item."""
+    empty = len(Dictionary([Item(0x42, b"a", b"")]).octets())
+    return Dictionary([Item(0x42, b"a", bytes(length - empty))]).octets()
+
+
+def many_items(count):
+    """A sound dictionary of so many items."""
+    return Dictionary([Item(0x08, b"%d" % number, b"\x01") for number in range(count)]).octets()
+
+
+def composite_of(**lengths):
+    """Credentials of these lengths."""
+    return lambda rng: {"op": "composite", **{name: rng.randbytes(length).hex() for name, length in lengths.items()}}
+
+
+def hash_of(alg, *parts):
+    """Feeds of so many zeros; bytes stand as they are."""
+    made = [part.hex() if isinstance(part, bytes) else {"zeros": part} for part in parts]
+    return lambda rng: {"op": "hash", "alg": alg, "parts": made}
+
+
+def tag_of(length):
+    return lambda rng: {"op": "tag", "key": rng.randbytes(64).hex(), "data": bytes(length).hex()}
+
+
+def inner_of(op, length):
+    """An inner header in a payload of that length."""
+
+    def make(rng):
+        made = sound_inner(rng)
+        made.fields.insert(0, Field(3, b"\x01content"))
+        return {"op": op, "data": filled(made.octets(), length).hex(), "index": 0}
+
+    return make
+
+
+def inner_write_of(length, lent=None, algorithm=2):
+    """The inner writer, to a payload of that length."""
+
+    def make(rng):
+        run = Field(3, rng.randbytes(1000)).octets()
+        document = rng.randbytes(length - 19 - 32 - len(run))
+        made = {"op": "inner_write", "alg": algorithm, "key": rng.randbytes(32).hex(), "run": run.hex(), "data": document.hex()}
+        if lent is not None:
+            made["lent"] = lent
+        return made
+
+    return make
+
+
+BORDERS = (
+    header_of("header", FILE_LIMIT),
+    header_of("header", FILE_LIMIT + 1),
+    not_a_file("header", FILE_LIMIT + 1),
+    header_of("list", PROGRAM_LIMIT),
+    header_of("list", PROGRAM_LIMIT + 1),
+    header_of("list", FILE_LIMIT + 1),
+    not_a_file("open", FILE_LIMIT + 1),
+    not_a_file("steps", FILE_LIMIT + 1),
+    open_of(FILE_LIMIT, None),
+    open_of(FILE_LIMIT, 1000),
+    open_of(FILE_LIMIT + 1, None),
+    steps_of(FILE_LIMIT, None),
+    steps_of(FILE_LIMIT, {"3": FILE_LIMIT + 1}),
+    steps_of(FILE_LIMIT - 1, {"4": FILE_LIMIT}),
+    steps_of(FILE_LIMIT + 1, None),
+    write_of("aes", largest_payload("aes"), b"", None),
+    write_of("aes", largest_payload("aes") + 1, b"", None),
+    write_of("aes", largest_payload("aes"), b"", FILE_LIMIT - 100_000),
+    write_of("aes", largest_payload("aes") + 1, b"", 0),
+    write_of("chacha", largest_payload("chacha"), b"", FILE_LIMIT),
+    write_of("chacha", largest_payload("chacha") + 1, b"", FILE_LIMIT),
+    write_of("chacha", FILE_LIMIT, b"", None),
+    write_of("chacha", FILE_LIMIT + 1, b"", 0),
+    write_of("chacha", 1, dictionary_of(FILE_LIMIT - 345), FILE_LIMIT),
+    write_of("chacha", 1, dictionary_of(FILE_LIMIT - 344), FILE_LIMIT),
+    write_of("chacha", FILE_LIMIT + 1, dictionary_of(FILE_LIMIT) + b"\x00", 0),
+    composite_of(password=FILE_LIMIT),
+    composite_of(password=FILE_LIMIT + 1),
+    composite_of(keyfile=FILE_LIMIT),
+    composite_of(keyfile=FILE_LIMIT + 1),
+    composite_of(password=FILE_LIMIT, keyfile=FILE_LIMIT),
+    composite_of(password=1, keyfile=FILE_LIMIT + 1),
+    composite_of(prehash=FILE_LIMIT + 1),
+    composite_of(password=FILE_LIMIT + 1, prehash=32),
+    composite_of(password=FILE_LIMIT, prehash=32),
+    hash_of("sha256", MESSAGE_LIMIT, b""),
+    hash_of("sha512", MESSAGE_LIMIT, b""),
+    hash_of("sha256", MESSAGE_LIMIT + 1, b"abc"),
+    hash_of("sha512", MESSAGE_LIMIT + 1, b"abc"),
+    hash_of("sha256", b"abc", MESSAGE_LIMIT - 2, MESSAGE_LIMIT - 3, b"\x01", b""),
+    hash_of("sha512", b"abc", MESSAGE_LIMIT - 2, MESSAGE_LIMIT - 3, b"\x01", b""),
+    tag_of(MESSAGE_LIMIT),
+    tag_of(MESSAGE_LIMIT + 1),
+    inner_of("inner", FILE_LIMIT),
+    inner_of("inner", FILE_LIMIT + 1),
+    inner_of("attachment", FILE_LIMIT),
+    inner_of("attachment", FILE_LIMIT + 1),
+    inner_write_of(FILE_LIMIT),
+    inner_write_of(FILE_LIMIT + 1),
+    inner_write_of(FILE_LIMIT, FILE_LIMIT - 1),
+    inner_write_of(FILE_LIMIT + 1, 0),
+    inner_write_of(FILE_LIMIT + 1, 0, 7),
+    lambda rng: {"op": "dict", "data": dictionary_of(FILE_LIMIT + 1).hex()},
+    lambda rng: {"op": "dict", "data": many_items(1500).hex()},
+    lambda rng: {"op": "dict", "data": (many_items(1500)[:-1] + Item(0x08, b"749", b"\x01").octets() + b"\x00").hex()},
+    lambda rng: {"op": "lookup", "data": many_items(1500).hex(), "name": b"1499".hex()},
+    lambda rng: {"op": "lookup", "data": dictionary_of(FILE_LIMIT + 1).hex(), "name": b"a".hex()},
+    lambda rng: {"op": "lookup", "data": many_items(2).hex(), "name": bytes(FILE_LIMIT + 1).hex()},
+)
+
+
+def border(rng, index):
+    """The request of that index."""
+    return BORDERS[index](rng)

@@ -1,0 +1,360 @@
+"""One random request of each operation, from a seeded generator.
+
+The request of a seed and an index depends on these two alone, so that any one can be made again by itself.
+"""
+
+from random import Random
+
+from model import vault as opening
+from model.answers import file_of_step
+from model.header import AES, CHACHA20, NONCE_LENGTH
+from model.limits import Refusal
+
+from . import edits
+from .borders import BORDERS, border
+from .shapes import Block, attachment_run, kdf_dictionary, sound_dictionary, sound_inner, sound_vault
+
+LARGE = 2**40  # a lent length past memory: large enough
+
+
+# ----- the outer header and dictionaries
+
+
+def header_octets(rng):
+    """A header with none to three edits, sometimes with bytes behind it, sometimes edited as bytes."""
+    made = sound_vault(rng).header
+    edits.apply(rng, edits.HEADER, made)
+    if rng.random() < 0.3:
+        made.after = rng.randbytes(rng.randrange(20))
+    return edits.octets(rng, made.octets(), 0.15)
+
+
+def request_header(rng):
+    if rng.random() < 0.01:
+        return {"data": rng.randbytes(rng.randrange(30)).hex()}
+    return {"data": header_octets(rng).hex()}
+
+
+def some_dictionary(rng):
+    """A dictionary of either kind, before edits."""
+    return kdf_dictionary(rng) if rng.random() < 0.3 else sound_dictionary(rng, 7)
+
+
+def request_dict(rng):
+    made = some_dictionary(rng)
+    edits.apply(rng, edits.DICTIONARY, made)
+    return {"data": edits.octets(rng, made.octets(), 0.15).hex()}
+
+
+def looked_up_name(rng, made):
+    """A name that is there, one near it, or any."""
+    names = [item.name for item in made.items] or [b"a"]
+    name = rng.choice(names)
+    roll = rng.random()
+    if roll < 0.6:
+        return name
+    if roll < 0.8:
+        return edits.other_octets(rng, name)
+    return rng.choice((b"", b"R", b"S", b"$UUID", name + name, rng.randbytes(2)))
+
+
+def request_lookup(rng):
+    made = some_dictionary(rng)
+    name = looked_up_name(rng, made)
+    edits.apply(rng, edits.DICTIONARY, made, (0.6, 0.9, 0.97))
+    return {"data": edits.octets(rng, made.octets(), 0.05).hex(), "name": name.hex()}
+
+
+# ----- keys and primitives
+
+
+def credential(rng):
+    """A credential with a length around those that matter."""
+    return rng.randbytes(rng.choice((0, 1, 31, 32, 33, 64, rng.randrange(100)))).hex()
+
+
+def request_composite(rng):
+    names = [name for name in ("password", "keyfile", "prehash") if rng.random() < 0.5]
+    made = {name: credential(rng) for name in names}
+    if "prehash" in made and rng.random() < 0.5:
+        made["prehash"] = rng.randbytes(32).hex()
+    return made
+
+
+def request_rounds(rng):
+    rounds = rng.choice((0, 1, 2, 3, rng.randrange(20), rng.randrange(200)))
+    if rng.random() < 0.02:
+        rounds = rng.randrange(5000)
+    if rng.random() < 0.1:
+        rounds = rng.choice((4_000_001, 2**32, 2**63, 2**64 - 1))
+    helpings = [
+        rng.choice((0, 1, 2, rounds // 2 % 5000, rounds % 5000, rng.randrange(30), 10_000, 2**32 - 1))
+        for _ in range(rng.randrange(6))
+    ]
+    return {"composite": rng.randbytes(32).hex(), "S": rng.randbytes(32).hex(), "R": rounds, "helpings": helpings}
+
+
+def request_keys(rng):
+    number = rng.choice((0, 1, 255, 256, 2**32 - 1, 2**32, 2**63, 2**64 - 2, 2**64 - 1, rng.randrange(2**64)))
+    return {"seed": rng.randbytes(32).hex(), "T": rng.randbytes(32).hex(), "i": number}
+
+
+def hash_length(rng):
+    """A length around the borders of blocks and of padding."""
+    border_length = rng.choice((0, 55, 56, 63, 64, 111, 112, 119, 120, 127, 128, 192, 256, 384, 512))
+    return max(0, rng.choice((border_length + rng.randrange(-2, 3), rng.randrange(600))))
+
+
+def request_hash(rng):
+    parts = []
+    for _ in range(rng.randrange(7)):
+        length = rng.choice((0, 1, 63, 64, 65, 127, 128, 129, hash_length(rng)))
+        parts.append({"zeros": length} if rng.random() < 0.1 else rng.randbytes(length).hex())
+    return {"alg": rng.choice(("sha256", "sha512")), "parts": parts}
+
+
+def request_tag(rng):
+    key_length = rng.choice((0, 1, 31, 32, 33, 63, 64, 65, 127, 128, 129, 200, rng.randrange(150)))
+    return {"key": rng.randbytes(key_length).hex(), "data": rng.randbytes(hash_length(rng)).hex()}
+
+
+# ----- files
+
+
+def pieces(rng, data):
+    """The data cut into few or many pieces, none of them empty."""
+    made = []
+    longest = rng.choice((1, 5, 15, 16, 17, 27, 40, 1000))
+    while data:
+        size = min(len(data), longest if rng.random() < 0.5 else rng.randrange(1, longest + 1))
+        if len(made) > 5 and longest < 16:
+            size = len(data)
+        made.append(data[:size])
+        data = data[size:]
+    return made
+
+
+def ciphertext(rng, made):
+    """The ciphertext of a random payload, at times padded wrongly or with bytes too many or too few."""
+    plain = rng.randbytes(rng.choice((0, 1, 15, 16, 17, 31, 32, rng.randrange(80), rng.randrange(150))))
+    if made.cipher == "aes" and rng.random() < 0.2:
+        return edits.wrongly_padded(rng, made, plain)
+    sound = opening.encryption(made.cipher, made.cipher_key, made.nonce, plain)
+    if rng.random() < 0.08:
+        return sound[: rng.randrange(len(sound) + 1)]
+    return sound
+
+
+def some_vault(rng):
+    """A file with few edits: of its header (with hash and tag over the edited one), of its blocks, of its bytes."""
+    made = sound_vault(rng)
+    made.blocks = [Block(piece) for piece in pieces(rng, ciphertext(rng, made)) + [b""]]
+    if rng.random() < 0.25:
+        edits.apply(rng, edits.HEADER, made.header, (0.0, 0.7, 0.9))
+    edits.apply(rng, edits.FILE, made, (0.5, 0.85, 0.96))
+    if rng.random() < 0.03:
+        edits.no_closing(rng, made)
+    return edits.octets(rng, made.octets(), 0.12), made.t
+
+
+def around(rng, need):
+    """A length around what is needed."""
+    return rng.choice((need, need, need + 1, need + 15, LARGE, max(0, need - 1), 0, rng.randrange(need + 20)))
+
+
+def request_open(rng):
+    data, t = some_vault(rng)
+    made = {"data": data.hex(), "T": t.hex()}
+    if rng.random() < 0.6:
+        try:
+            made["lent"] = around(rng, len(opening.open_whole(data, t)))
+        except Refusal:
+            made["lent"] = rng.choice((0, 16, 100))
+    return made
+
+
+def other_length(rng, data, position):
+    """Another length of the file for one step."""
+    return rng.choice((
+        0, position, position + 35, position + 36, position + 37, len(data) - 1, len(data), len(data) + 1, len(data) + 36,
+        max(0, position - 1), rng.randrange(len(data) + 40), 4_194_305 if rng.random() < 0.3 else len(data) + 100,
+    ))
+
+
+def lents_for(rng, data, t, lengths):
+    """Lent lengths around what each step needs, some too short, with steps after the end."""
+    try:
+        header, vault_keys, position = opening.start(data, t)
+    except Refusal:
+        return [rng.choice((0, 16, LARGE)) for _ in range(rng.randrange(3))]
+    state = opening.State(position)
+    patient = rng.random() < 0.5
+    lents = []
+    after = rng.randrange(3)
+    while len(lents) < 30 and after >= 0:
+        if rng.random() < 0.03:
+            lengths[str(len(lents))] = other_length(rng, data, state.position)
+        seen = file_of_step(data, lengths, len(lents))
+        number, given, _ = opening.step(header, vault_keys, state, seen, LARGE)
+        lent = rng.choice((LARGE, len(given), len(given) + 1)) if patient else around(rng, len(given))
+        lents.append(lent)
+        state = opening.step(header, vault_keys, state, seen, lent)[2]
+        after -= state.mark != "open"
+    return lents
+
+
+def request_steps(rng):
+    data, t = some_vault(rng)
+    lengths = {}
+    made = {"data": data.hex(), "T": t.hex(), "lents": lents_for(rng, data, t, lengths)}
+    if lengths:
+        made["file_lengths"] = lengths
+    return made
+
+
+def sound_write(rng):
+    """What the writer takes."""
+    cipher = rng.choice(("aes", "chacha"))
+    made = {
+        "minor": rng.randrange(2),
+        "cipher": cipher,
+        "seed": rng.randbytes(32).hex(),
+        "nonce": rng.randbytes(NONCE_LENGTH[cipher]).hex(),
+        "kdf": {"kind": "aeskdf", "S": rng.randbytes(32).hex(), "R": rng.choice((0, 1, 6000, 4_000_000))},
+        "T": rng.randbytes(32).hex(),
+        "data": rng.randbytes(payload_length(rng)).hex(),
+    }
+    if rng.random() < 0.4:
+        made["custom"] = sound_dictionary(rng).octets().hex() if rng.random() < 0.9 else ""
+    return made
+
+
+def payload_length(rng):
+    """Mostly short; a few around the length of a written block and twice that."""
+    if rng.random() < 0.04:
+        return rng.choice((16_383, 16_384, 16_385, 16_367, 16_368, 32_767, 32_768, 32_769))
+    return rng.choice((0, 1, 15, 16, 17, rng.randrange(200)))
+
+
+def write_minor(rng, made):
+    made["minor"] = rng.choice((2, 3, 4, 255, 256, 65_535))
+
+
+def write_cipher(rng, made):
+    other = edits.flipped(AES, rng.randrange(128))
+    made["cipher"] = rng.choice((AES, CHACHA20, other, rng.randbytes(16), bytes(16))).hex()
+
+
+def write_lengths(rng, made):
+    length = rng.choice((0, 11, 12, 13, 15, 16, 17, 31, 32, 33, 64))
+    octets = rng.randbytes(length).hex()
+    part = rng.randrange(3)
+    if part == 0:
+        made["kdf"]["S"] = octets
+    else:
+        made[("seed", "nonce")[part - 1]] = octets
+
+
+def write_rounds(rng, made):
+    made["kdf"]["R"] = rng.choice((4_000_000, 4_000_001, 2**32, 2**63, 2**64 - 1))
+
+
+def write_custom(rng, made):
+    custom = sound_dictionary(rng)
+    edits.apply(rng, edits.DICTIONARY, custom, (0.0, 0.7, 0.9))
+    made["custom"] = custom.octets().hex()
+
+
+WRITE = (write_minor, write_cipher, write_lengths, write_lengths, write_rounds, write_custom, write_custom)
+
+
+def request_write(rng):
+    made = sound_write(rng)
+    edits.apply(rng, WRITE, made, (0.4, 0.8, 0.93))
+    if rng.random() < 0.6:
+        made["lent"] = around(rng, written_length(made))
+    return made
+
+
+def written_length(made):
+    """The length of the file that these parts make, were they sound."""
+    payload = len(made["data"]) // 2
+    text = payload // 16 * 16 + 16 if made["cipher"] == "aes" else payload
+    custom = len(made.get("custom", "")) // 2
+    header = (207 if made["cipher"] == "aes" else 203) + (5 + custom if custom else 0)
+    return header + 64 + text + 36 * (-(-text // 16_384) + 1)
+
+
+# ----- the inner header
+
+
+def inner_octets(rng):
+    """An inner header with none to three edits."""
+    made = sound_inner(rng)
+    edits.apply(rng, edits.INNER, made)
+    return edits.octets(rng, made.octets(), 0.15)
+
+
+def request_inner(rng):
+    return {"data": inner_octets(rng).hex()}
+
+
+def request_attachment(rng):
+    made = sound_inner(rng)
+    edits.apply(rng, edits.INNER, made, (0.6, 0.9, 0.97))
+    return {"data": edits.octets(rng, made.octets(), 0.08).hex(), "index": rng.choice((0, 0, 1, 1, 2, 3, 4, 256, 2**32 - 1))}
+
+
+def run_octets(rng):
+    """A run of attachments, perhaps with an edit or a field that is none."""
+    fields = attachment_run(rng)
+    for field in fields:
+        if rng.random() < 0.1:
+            field.size = edits.other_size(rng, len(field.value))
+        if rng.random() < 0.1:
+            field.key = rng.choice((0, 1, 2, 4, 255))
+        if rng.random() < 0.06:
+            field.value = b""
+    return edits.octets(rng, b"".join(field.octets() for field in fields), 0.1)
+
+
+def request_inner_write(rng):
+    algorithm = rng.choice((2, 3)) if rng.random() < 0.85 else rng.choice((0, 1, 4, 258, 2**31 - 1))
+    key, run = rng.randbytes(rng.choice((0, 1, 32, 64))), run_octets(rng)
+    document = rng.randbytes(rng.choice((0, 1, rng.randrange(60))))
+    made = {"alg": algorithm, "key": key.hex(), "run": run.hex(), "data": document.hex()}
+    if rng.random() < 0.6:
+        made["lent"] = around(rng, 19 + len(key) + len(run) + len(document))
+    return made
+
+
+# ----- one of all
+
+# Shares of the operations in a thousand requests.
+SHARES = {
+    "header": (190, request_header),
+    "list": (60, request_header),
+    "dict": (110, request_dict),
+    "lookup": (80, request_lookup),
+    "composite": (40, request_composite),
+    "rounds": (40, request_rounds),
+    "keys": (20, request_keys),
+    "hash": (50, request_hash),
+    "tag": (40, request_tag),
+    "open": (110, request_open),
+    "steps": (110, request_steps),
+    "write": (60, request_write),
+    "inner": (50, request_inner),
+    "attachment": (20, request_attachment),
+    "inner_write": (20, request_inner_write),
+}
+TABLE = [(op, make) for op, (share, make) in SHARES.items() for _ in range(share)]
+
+
+def request(seed, index):
+    """The request of an index; the first ones are those at the limits."""
+    rng = Random(f"{seed}:{index}")
+    if index < len(BORDERS):
+        return border(rng, index)
+    op, make = TABLE[rng.randrange(len(TABLE))]
+    return {"op": op, **make(rng)}
