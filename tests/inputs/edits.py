@@ -250,7 +250,8 @@ def nonce_field(rng, header):
 def kdf_field(rng, header):
     field = header.field(outer.KDF)
     if field and not isinstance(field.value, bytes):
-        rng.choice(KDF)(rng, field.value)
+        for _ in range(rng.choice((1, 1, 2))):
+            rng.choice(KDF)(rng, field.value)
 
 
 def custom_field(rng, header):
@@ -375,7 +376,7 @@ FILE = (
 
 
 def wrong_padding(rng, plain):
-    """A padded payload whose padding is wrong, or at times right."""
+    """A padded payload whose padding is wrong, at times right, at times one of 17 or 18 bytes that all tell it."""
     padding = 16 - len(plain) % 16
     padded = bytearray(plain + bytes([padding]) * padding)
     way = rng.randrange(4)
@@ -386,7 +387,7 @@ def wrong_padding(rng, plain):
     if way == 2:
         padded[-1] = rng.randrange(1, 17)
     if way == 3:
-        length = rng.randrange(1, 17)
+        length = min(rng.choice((16, 17, 18, rng.randrange(1, 17))), len(padded))
         padded[-length:] = bytes([length]) * length
         padded[-length] ^= rng.choice((0, 0, 1, 16))
     return bytes(padded)
@@ -409,7 +410,7 @@ def cut_near_end(rng, data):
 
 
 def bit(rng, data):
-    return flipped(data, rng.randrange(8 * len(data))) if data else data
+    return flipped(data, rng.randrange(8 * len(data) + 1))
 
 
 def byte_removed(rng, data):

@@ -8,7 +8,7 @@ from random import Random
 from model import vault as opening
 from model.answers import file_of_step
 from model.header import AES, CHACHA20, NONCE_LENGTH
-from model.limits import Refusal
+from model.limits import FILE_LIMIT, Refusal
 
 from . import edits
 from .borders import BORDERS, border
@@ -81,17 +81,23 @@ def request_composite(rng):
     return made
 
 
+def rounds_seeds(rng):
+    return {"composite": rng.randbytes(32).hex(), "S": rng.randbytes(32).hex()}
+
+
 def request_rounds(rng):
     rounds = rng.choice((0, 1, 2, 3, rng.randrange(20), rng.randrange(200)))
     if rng.random() < 0.02:
         rounds = rng.randrange(5000)
     if rng.random() < 0.1:
         rounds = rng.choice((4_000_001, 2**32, 2**63, 2**64 - 1))
+    if rng.random() < 0.03:
+        return {**rounds_seeds(rng), "R": rng.choice((3_999_999, 4_000_000)), "helpings": [rng.randrange(100), 1]}
     helpings = [
         rng.choice((0, 1, 2, rounds // 2 % 5000, rounds % 5000, rng.randrange(30), 10_000, 2**32 - 1))
         for _ in range(rng.randrange(6))
     ]
-    return {"composite": rng.randbytes(32).hex(), "S": rng.randbytes(32).hex(), "R": rounds, "helpings": helpings}
+    return {**rounds_seeds(rng), "R": rounds, "helpings": helpings}
 
 
 def request_keys(rng):
@@ -177,7 +183,7 @@ def other_length(rng, data, position):
     """Another length of the file for one step."""
     return rng.choice((
         0, position, position + 35, position + 36, position + 37, len(data) - 1, len(data), len(data) + 1, len(data) + 36,
-        max(0, position - 1), rng.randrange(len(data) + 40), 4_194_305 if rng.random() < 0.3 else len(data) + 100,
+        max(0, position - 1), rng.randrange(len(data) + 40), FILE_LIMIT + 1,
     ))
 
 

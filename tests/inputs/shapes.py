@@ -135,7 +135,9 @@ class Vault:
 
 
 def flipped(data, bit):
-    """The data with one bit turned over."""
+    """The data with one bit turned over; nothing stays nothing."""
+    if not data:
+        return data
     made = bytearray(data)
     made[bit // 8 % len(made)] ^= 1 << bit % 8
     return bytes(made)
