@@ -5,13 +5,14 @@ This is what `tests/differential --self` runs. The fixtures' manifest was made b
 
 import json
 import os
+from random import Random
 
+from inputs.requests import some_vault
 from inputs.shapes import Block, sound_vault
 from model import header as outer, inner, keys, vault
 from model.dictionary import AES_KDF
 from model.limits import Refusal
 from model.primitives import sha256
-from random import Random
 
 LISTING = """\
 03D9A29A67FB4BB501000400
@@ -40,13 +41,18 @@ class Tally:
             print("%s: %r, should be %r" % (label, given, right))
 
 
-def number_of(action, *parts):
-    """The number that an operation refuses with, or 0."""
+def outcome(action, *parts):
+    """What an operation gives: its bytes or its number."""
     try:
-        action(*parts)
+        return action(*parts)
     except Refusal as refusal:
         return refusal.number
-    return 0
+
+
+def number_of(action, *parts):
+    """The number that an operation refuses with, or 0."""
+    given = outcome(action, *parts)
+    return given if isinstance(given, int) else 0
 
 
 def credentials(folder, entry):
@@ -69,7 +75,7 @@ def block_sizes(data, at):
 
 
 def stepped(data, t):
-    """The payload by steps with room for each."""
+    """The payload by steps with room for each, or the number of the step that was refused."""
     header, vault_keys, at = vault.start(data, t)
     state, made = vault.State(at), b""
     while state.mark == "open":
@@ -93,7 +99,8 @@ def check_opened(tally, folder, entry, data):
     tally.same(label + " T", t.hex(), entry["T"])
     tally.same(label + " blocks", block_sizes(data, header.length + 64), entry["blocks"])
     plain = vault.open_whole(data, t)
-    tally.same(label + " payload", (len(plain), sha256(plain).hex()), (entry["payload_length"], entry["payload_sha256"]))
+    tally.same(label + " payload length", len(plain), entry["payload_length"])
+    tally.same(label + " payload", sha256(plain).hex(), entry["payload_sha256"])
     tally.same(label + " by steps", stepped(data, t) == plain, True)
     tally.same(label + " another T", number_of(vault.open_whole, data, bytes(32)), 13)
     check_inner(tally, label, entry, plain)
@@ -187,6 +194,14 @@ def check_listing(tally):
     tally.same("AES-KDF", AES_KDF in data, True)
 
 
+def check_agreement(tally, count=1500):
+    """Demand 3 on the model: "Once it is taken, they are the payload, and the whole opener gives the same"; "Where a
+    refusal met the start or closed the opening, the whole opener gives that refusal." """
+    for number in range(count):
+        data, t = some_vault(Random(number))
+        tally.same("whole and by steps, %d" % number, outcome(stepped, data, t), outcome(vault.open_whole, data, t))
+
+
 def check_model(fixtures):
     """All of it; True where every check passed."""
     tally = Tally()
@@ -194,6 +209,7 @@ def check_model(fixtures):
     check_handed_over(tally)
     check_refusals(tally)
     check_listing(tally)
+    check_agreement(tally)
     check_fixtures(tally, fixtures)
     print("%d passed, %d failed" % (tally.passed, tally.failed))
     return tally.failed == 0

@@ -36,7 +36,8 @@ def open_of(length, room):
 
     def make(rng):
         made = large_vault(rng, length, 4)
-        return {"op": "open", "data": made.octets().hex(), "T": made.t.hex(), "lent": room}
+        request = {"op": "open", "data": made.octets().hex(), "T": made.t.hex()}
+        return request if room is None else {**request, "lent": room}
 
     return make
 
@@ -130,7 +131,8 @@ def inner_write_of(length, lent=None, algorithm=2):
     def make(rng):
         run = Field(3, rng.randbytes(1000)).octets()
         document = rng.randbytes(length - 19 - 32 - len(run))
-        made = {"op": "inner_write", "alg": algorithm, "key": rng.randbytes(32).hex(), "run": run.hex(), "data": document.hex()}
+        made = {"op": "inner_write", "alg": algorithm, "key": rng.randbytes(32).hex()}
+        made.update(run=run.hex(), data=document.hex())
         if lent is not None:
             made["lent"] = lent
         return made

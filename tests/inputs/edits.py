@@ -34,7 +34,8 @@ def other_octets(rng, data):
 
 
 def version(rng, made):
-    made.version = rng.choice((b"\x00\x00", b"\x00\x02", b"\x01\x00", b"\x00\x81", b"\x00", b"", bytes([rng.randrange(256), 1])))
+    wrong = (b"\x00\x00", b"\x00\x02", b"\x01\x00", b"\x00\x81", b"\x00", b"")
+    made.version = rng.choice(wrong + (bytes([rng.randrange(256), 1]),))
 
 
 def end(rng, made):
@@ -55,7 +56,8 @@ def item_type(rng, made):
 def item_resized(rng, made):
     """A value that does not fit the type, with a size that tells its length."""
     item = some_item(rng, made)
-    item.value = rng.choice((b"", item.value[:-1], item.value + b"\x00", item.value + bytes(4), rng.randbytes(rng.randrange(20))))
+    other = rng.randbytes(rng.randrange(20))
+    item.value = rng.choice((b"", item.value[:-1], item.value + b"\x00", item.value + bytes(4), other))
 
 
 def item_value_size(rng, made):
@@ -117,9 +119,8 @@ DICTIONARY = (
 def kdf_identifier(rng, made):
     item = made.item(b"$UUID")
     if item:
-        item.value = rng.choice(
-            (ARGON2D, ARGON2ID, flipped(AES_KDF, rng.randrange(128)), rng.randbytes(16), AES_KDF[:15], AES_KDF + b"\x00")
-        )
+        near = (flipped(AES_KDF, rng.randrange(128)), AES_KDF[:15], AES_KDF + b"\x00")
+        item.value = rng.choice((ARGON2D, ARGON2ID, rng.randbytes(16)) + near)
 
 
 def kdf_rounds(rng, made):
@@ -172,7 +173,7 @@ def field_value(rng, header):
 
 
 def field_key(rng, header):
-    some_field(rng, header).key = rng.choice((0, 1, 2, 3, 4, 5, 6, 7, 8, 9, 10, 11, 12, 13, 128, 255, rng.randrange(256)))
+    some_field(rng, header).key = rng.choice((*range(14), 128, 255, rng.randrange(256)))
 
 
 def field_added(rng, header):
@@ -205,10 +206,18 @@ def fields_cut(rng, header):
     del header.fields[rng.randrange(len(header.fields) + 1) :]
 
 
-FIELDS = (field_size, field_size, field_value, field_key, field_added, field_removed, field_repeated, fields_moved, fields_cut)
+FIELDS = (
+    field_size, field_size, field_value, field_key, field_added, field_removed, field_repeated, fields_moved,
+    fields_cut,
+)
 
 
 # ----- the outer header
+
+
+OTHER_VERSIONS = (
+    "02000400", "00000300", "00000500", "04000100", "00000000", "ffffffff", "01000300", "00010400", "00000401",
+)
 
 
 def front(rng, header):
@@ -217,8 +226,7 @@ def front(rng, header):
     if way == 0:
         header.front = flipped(header.front, rng.randrange(96))
     if way == 1:
-        versions = ("02000400", "00000300", "00000500", "04000100", "00000000", "ffffffff", "01000300", "00010400", "00000401")
-        header.front = header.front[:8] + bytes.fromhex(rng.choice(versions))
+        header.front = header.front[:8] + bytes.fromhex(rng.choice(OTHER_VERSIONS))
     if way == 2:
         header.front = other_octets(rng, header.front)
 
@@ -226,7 +234,8 @@ def front(rng, header):
 def end_field(rng, header):
     field = header.field(outer.END)
     if field:
-        field.value = rng.choice((b"", b"\x0d\x0a\x0d", b"\x0d\x0a\x0d\x0a\x00", bytes(4), flipped(outer.END_BYTES, rng.randrange(32))))
+        right = outer.END_BYTES
+        field.value = rng.choice((b"", right[:3], right + b"\x00", bytes(4), flipped(right, rng.randrange(32))))
 
 
 def cipher_field(rng, header):
@@ -266,7 +275,8 @@ def custom_field(rng, header):
         rng.choice(DICTIONARY)(rng, field.value)
 
 
-HEADER = FIELDS + (front, front, end_field, cipher_field, compression_field, nonce_field) + 4 * (kdf_field,) + 3 * (custom_field,)
+HEADER = FIELDS + (front, front, end_field, cipher_field, compression_field, nonce_field)
+HEADER += 4 * (kdf_field,) + 3 * (custom_field,)
 
 
 # ----- the inner header
@@ -352,11 +362,13 @@ def block_empty(rng, vault):
 def block_grown(rng, vault):
     """More or fewer bytes of ciphertext, under a tag that holds."""
     block = some_block(rng, vault)
-    block.data = rng.choice((block.data[:-1], block.data + rng.randbytes(1), block.data + rng.randbytes(16), rng.randbytes(rng.randrange(40))))
+    data, other = block.data, rng.randbytes(rng.randrange(40))
+    block.data = rng.choice((data[:-1], data + rng.randbytes(1), data + rng.randbytes(16), other))
 
 
 def bytes_after(rng, vault):
-    vault.after = rng.choice((b"\x00", rng.randbytes(rng.randrange(1, 40)), bytes(36), Block(b"").octets(vault.base, len(vault.blocks))))
+    closing = Block(b"").octets(vault.base, len(vault.blocks))
+    vault.after = rng.choice((b"\x00", rng.randbytes(rng.randrange(1, 40)), bytes(36), closing))
 
 
 def no_closing(rng, vault):

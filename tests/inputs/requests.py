@@ -15,6 +15,7 @@ from .borders import BORDERS, border
 from .shapes import Block, attachment_run, kdf_dictionary, sound_dictionary, sound_inner, sound_vault
 
 LARGE = 2**40  # a lent length past memory: large enough
+LARGEST = 2**64 - 1
 
 
 # ----- the outer header and dictionaries
@@ -94,7 +95,7 @@ def request_rounds(rng):
     if rng.random() < 0.03:
         return {**rounds_seeds(rng), "R": rng.choice((3_999_999, 4_000_000)), "helpings": [rng.randrange(100), 1]}
     helpings = [
-        rng.choice((0, 1, 2, rounds // 2 % 5000, rounds % 5000, rng.randrange(30), 10_000, 2**32 - 1))
+        rng.choice((0, 1, 2, rounds // 2 % 5000, rounds % 5000, rng.randrange(30), 10_000, 2**32, LARGEST))
         for _ in range(rng.randrange(6))
     ]
     return {**rounds_seeds(rng), "R": rounds, "helpings": helpings}
@@ -165,7 +166,8 @@ def some_vault(rng):
 
 def around(rng, need):
     """A length around what is needed."""
-    return rng.choice((need, need, need + 1, need + 15, LARGE, max(0, need - 1), 0, rng.randrange(need + 20)))
+    enough = rng.choice((LARGE, LARGEST))
+    return rng.choice((need, need, need + 1, need + 15, enough, max(0, need - 1), 0, rng.randrange(need + 20)))
 
 
 def request_open(rng):
@@ -182,8 +184,8 @@ def request_open(rng):
 def other_length(rng, data, position):
     """Another length of the file for one step."""
     return rng.choice((
-        0, position, position + 35, position + 36, position + 37, len(data) - 1, len(data), len(data) + 1, len(data) + 36,
-        max(0, position - 1), rng.randrange(len(data) + 40), FILE_LIMIT + 1,
+        0, max(0, position - 1), position, position + 35, position + 36, position + 37, rng.randrange(len(data) + 40),
+        len(data) - 1, len(data), len(data) + 1, len(data) + 36, FILE_LIMIT + 1,
     ))
 
 
@@ -308,7 +310,8 @@ def request_inner(rng):
 def request_attachment(rng):
     made = sound_inner(rng)
     edits.apply(rng, edits.INNER, made, (0.6, 0.9, 0.97))
-    return {"data": edits.octets(rng, made.octets(), 0.08).hex(), "index": rng.choice((0, 0, 1, 1, 2, 3, 4, 256, 2**32 - 1))}
+    index = rng.choice((0, 0, 1, 1, 2, 3, 4, 256, 2**32, 2**64 - 1))
+    return {"data": edits.octets(rng, made.octets(), 0.08).hex(), "index": index}
 
 
 def run_octets(rng):
@@ -325,7 +328,7 @@ def run_octets(rng):
 
 
 def request_inner_write(rng):
-    algorithm = rng.choice((2, 3)) if rng.random() < 0.85 else rng.choice((0, 1, 4, 258, 2**31 - 1))
+    algorithm = rng.choice((2, 3)) if rng.random() < 0.85 else rng.choice((0, 1, 4, 258, 2**31 + 2, 2**32 - 1))
     key, run = rng.randbytes(rng.choice((0, 1, 32, 64))), run_octets(rng)
     document = rng.randbytes(rng.choice((0, 1, rng.randrange(60))))
     made = {"alg": algorithm, "key": key.hex(), "run": run.hex(), "data": document.hex()}
