@@ -1,5 +1,6 @@
 """The few large requests: at each limit of document 01, and one past it."""
 
+from model import vault as opening
 from model.limits import FILE_LIMIT, MESSAGE_LIMIT, PROGRAM_LIMIT
 
 from .shapes import Block, Dictionary, Field, Item, sound_inner, sound_vault
@@ -52,6 +53,21 @@ def steps_of(length, file_lengths):
         if file_lengths:
             request["file_lengths"] = file_lengths
         return request
+
+    return make
+
+
+def aes_vault(op, payload, block):
+    """A large AES file in blocks whose size is no multiple of 16, opened whole and by steps."""
+
+    def make(rng):
+        made = sound_vault(rng)
+        while made.cipher != "aes":
+            made = sound_vault(rng)
+        text = opening.encryption("aes", made.cipher_key, made.nonce, rng.randbytes(payload))
+        made.blocks = [Block(text[at : at + block]) for at in range(0, len(text), block)] + [Block(b"")]
+        lents = [block + 15] * len(made.blocks)
+        return {"op": op, "data": made.octets().hex(), "T": made.t.hex(), "lents": lents}
 
     return make
 
@@ -110,7 +126,13 @@ def hash_of(alg, *parts):
     return lambda rng: {"op": "hash", "alg": alg, "parts": made}
 
 
+def seeds(rng):
+    """A composite key and the KDF's seed."""
+    return {"composite": rng.randbytes(32).hex(), "S": rng.randbytes(32).hex()}
+
+
 def tag_of(length):
+    """A tag over so many zeros."""
     return lambda rng: {"op": "tag", "key": rng.randbytes(64).hex(), "data": bytes(length).hex()}
 
 
@@ -156,6 +178,9 @@ BORDERS = (
     steps_of(FILE_LIMIT, {"3": FILE_LIMIT + 1}),
     steps_of(FILE_LIMIT - 1, {"4": FILE_LIMIT}),
     steps_of(FILE_LIMIT + 1, None),
+    aes_vault("open", 4_000_000, 1_048_576),
+    aes_vault("open", 1_000_000, 99_999),
+    aes_vault("steps", 1_000_000, 99_999),
     write_of("aes", largest_payload("aes"), b"", None),
     write_of("aes", largest_payload("aes") + 1, b"", None),
     write_of("aes", largest_payload("aes"), b"", FILE_LIMIT - 100_000),
@@ -182,6 +207,7 @@ BORDERS = (
     hash_of("sha512", MESSAGE_LIMIT + 1, b"abc"),
     hash_of("sha256", b"abc", MESSAGE_LIMIT - 2, MESSAGE_LIMIT - 3, b"\x01", b""),
     hash_of("sha512", b"abc", MESSAGE_LIMIT - 2, MESSAGE_LIMIT - 3, b"\x01", b""),
+    lambda rng: {"op": "rounds", **seeds(rng), "R": 30_000, "helpings": [9_999, 0, 20_000, 1, 1]},
     tag_of(MESSAGE_LIMIT),
     tag_of(MESSAGE_LIMIT + 1),
     inner_of("inner", FILE_LIMIT),

@@ -11,7 +11,7 @@ from model.header import AES, CHACHA20, NONCE_LENGTH
 from model.limits import FILE_LIMIT, Refusal
 
 from . import edits
-from .borders import BORDERS, border
+from .borders import BORDERS, border, seeds
 from .shapes import Block, attachment_run, kdf_dictionary, sound_dictionary, sound_inner, sound_vault
 
 LARGE = 2**40  # a lent length past memory: large enough
@@ -82,10 +82,6 @@ def request_composite(rng):
     return made
 
 
-def rounds_seeds(rng):
-    return {"composite": rng.randbytes(32).hex(), "S": rng.randbytes(32).hex()}
-
-
 def request_rounds(rng):
     rounds = rng.choice((0, 1, 2, 3, rng.randrange(20), rng.randrange(200)))
     if rng.random() < 0.02:
@@ -93,12 +89,12 @@ def request_rounds(rng):
     if rng.random() < 0.1:
         rounds = rng.choice((4_000_001, 2**32, 2**63, 2**64 - 1))
     if rng.random() < 0.03:
-        return {**rounds_seeds(rng), "R": rng.choice((3_999_999, 4_000_000)), "helpings": [rng.randrange(100), 1]}
+        return {**seeds(rng), "R": rng.choice((3_999_999, 4_000_000)), "helpings": [rng.randrange(100), 1]}
     helpings = [
         rng.choice((0, 1, 2, rounds // 2 % 5000, rounds % 5000, rng.randrange(30), 10_000, 2**32, LARGEST))
         for _ in range(rng.randrange(6))
     ]
-    return {**rounds_seeds(rng), "R": rounds, "helpings": helpings}
+    return {**seeds(rng), "R": rounds, "helpings": helpings}
 
 
 def request_keys(rng):
@@ -109,6 +105,8 @@ def request_keys(rng):
 def hash_length(rng):
     """A length around the borders of blocks and of padding."""
     border_length = rng.choice((0, 55, 56, 63, 64, 111, 112, 119, 120, 127, 128, 192, 256, 384, 512))
+    if rng.random() < 0.02:
+        return rng.randrange(5000)
     return max(0, rng.choice((border_length + rng.randrange(-2, 3), rng.randrange(600))))
 
 
@@ -131,7 +129,8 @@ def request_tag(rng):
 def pieces(rng, data):
     """The data cut into few or many pieces, none of them empty."""
     made = []
-    longest = rng.choice((1, 5, 15, 16, 17, 27, 40, 1000))
+    sizes = (1, 5, 15, 16, 17, 27, 40, 1000) if len(data) < 1000 else (1000, 4097, 16_384, 10**6)
+    longest = rng.choice(sizes)
     while data:
         size = min(len(data), longest if rng.random() < 0.5 else rng.randrange(1, longest + 1))
         if len(made) > 5 and longest < 16:
@@ -143,7 +142,10 @@ def pieces(rng, data):
 
 def ciphertext(rng, made):
     """The ciphertext of a random payload, at times padded wrongly or with bytes too many or too few."""
-    plain = rng.randbytes(rng.choice((0, 1, 15, 16, 17, 31, 32, rng.randrange(80), rng.randrange(150))))
+    length = rng.choice((0, 1, 15, 16, 17, 31, 32, rng.randrange(80), rng.randrange(150)))
+    if rng.random() < 0.01:
+        length = rng.randrange(1000, 30_000)  # past 256 blocks of ChaCha20
+    plain = rng.randbytes(length)
     if made.cipher == "aes" and rng.random() < 0.2:
         return edits.wrongly_padded(rng, made, plain)
     sound = opening.encryption(made.cipher, made.cipher_key, made.nonce, plain)

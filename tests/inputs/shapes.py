@@ -228,4 +228,5 @@ def sound_inner(rng):
 
 def attachment_run(rng):
     """Fields of attachments: a flags byte of any value, and content."""
-    return [Field(3, rng.randbytes(rng.choice((1, 2, rng.randrange(1, 30))))) for _ in range(rng.randrange(4))]
+    count = rng.randrange(4) if rng.random() < 0.97 else rng.randrange(40)
+    return [Field(3, rng.randbytes(rng.choice((1, 2, rng.randrange(1, 30))))) for _ in range(count)]
