@@ -141,7 +141,7 @@ def pieces(rng, data):
 
 
 def ciphertext(rng, made):
-    """The ciphertext of a random payload, at times padded wrongly or with bytes too many or too few."""
+    """The ciphertext of a random payload, at times padded wrongly, cut short or none at all."""
     length = rng.choice((0, 1, 15, 16, 17, 31, 32, rng.randrange(80), rng.randrange(150)))
     if rng.random() < 0.01:
         length = rng.randrange(1000, 30_000)  # past 256 blocks of ChaCha20
@@ -149,7 +149,10 @@ def ciphertext(rng, made):
     if made.cipher == "aes" and rng.random() < 0.2:
         return edits.wrongly_padded(rng, made, plain)
     sound = opening.encryption(made.cipher, made.cipher_key, made.nonce, plain)
-    if rng.random() < 0.08:
+    roll = rng.random()
+    if roll < 0.03:
+        return b""
+    if roll < 0.1:
         return sound[: rng.randrange(len(sound) + 1)]
     return sound
 
