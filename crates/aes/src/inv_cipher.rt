@@ -39,7 +39,8 @@ fn inv_final_round(inverse: &[u8; 256], v: &[u32; 60], s: Columns) -> Columns
     add_round_key(v, 0, x)
 }
 
-// EqInvCipher(), where the tables are those of the inverse cipher: InvCipher() on the key schedule that v is the dual of.
+// EqInvCipher(), where the tables are those of the inverse cipher: InvCipher() on the key schedule that v is the dual
+// of.
 pub fn decrypt(inverse: &[u8; 256], td: &[u32; 256], v: &[u32; 60], s: Columns) -> Columns
     ensures { λ r. ⌜ (now (inverse .entry) ≡ tables.inverse → now (td .entry) ≡ tables.td → columns r ≡ fips197.eqInvCipher (columns s) (now (v .entry))) ⌝ }
 {

@@ -1,11 +1,10 @@
 // AES-256 (FIPS 197): the key schedule, the cipher and its inverse on one block.
 //
-// The contracts cite specs of crate fips197: keyExpansion, cipher, invCipher. Every operation answers every input: a key is 32
-// bytes, a block 16, by their types. Round keys are a value; any 60 words are some key schedule, and the promises hold of them.
-// The operations of this file build the tables that they need (crate aes_tables) at each call: some 2,000 instructions, and
-// 8,000 for decryption. Those of the modules below take lent tables, for callers with many blocks; what they promise holds where
-// the tables are the right ones.
-// Table look-ups are not constant-time.
+// The contracts cite specs of crate fips197: keyExpansion, cipher, invCipher. Every operation answers every input: a
+// key is 32 bytes, a block 16, by their types. Round keys are a value; any 60 words are some key schedule, and the
+// promises hold of them. The operations of this file build the tables that they need (crate aes_tables) at each call:
+// some 2,000 instructions, and 8,000 for decryption. Those of the modules below take lent tables, for callers with many
+// blocks; what they promise holds where the tables are the right ones. Table look-ups are not constant-time.
 ghost use mathlib.Core.Path.{_≡_};
 ghost use Rattle.fips197.specs.Fips197 as fips197;
 ghost use Rattle.aes.specs.Repeated.{repeated};

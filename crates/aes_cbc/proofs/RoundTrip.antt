@@ -1,5 +1,5 @@
--- The theorem: CBC decryption under AES-256 undoes encryption, and encryption decryption, under every key schedule and from every
--- block before.
+-- The theorem: CBC decryption under AES-256 undoes encryption, and encryption decryption, under every key schedule and
+-- from every block before.
 --
 -- In order:
 --   cipher-keeps, invCipher-keeps        lists of sixteen stay so, for the laws of crate cbc

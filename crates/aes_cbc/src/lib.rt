@@ -1,9 +1,10 @@
 // CBC encryption and decryption (SP 800-38A, 6.2) under AES-256 (FIPS 197), in place.
 //
-// A run of bytes is lent and changed where it stands; the ciphertext block before it, at first the IV, goes in by value and the
-// one for what follows comes back. The whole blocks of the run count: the bytes behind the last one stay as they were.
-// The contracts cite specs/Aes256Cbc, which is crate cbc's encrypt and decrypt over crate fips197's cipher and invCipher.
-// Each call builds its tables: some 2,000 instructions to encrypt, 8,000 to decrypt. Table look-ups are not constant-time.
+// A run of bytes is lent and changed where it stands; the ciphertext block before it, at first the IV, goes in by value
+// and the one for what follows comes back. The whole blocks of the run count: the bytes behind the last one stay as
+// they were. The contracts cite specs/Aes256Cbc, which is crate cbc's encrypt and decrypt over crate fips197's cipher
+// and invCipher. Each call builds its tables: some 2,000 instructions to encrypt, 8,000 to decrypt. Table look-ups are
+// not constant-time.
 ghost use mathlib.Core.Path.{_≡_};
 ghost use Prim.Native.Nat.{_≤_};
 ghost use lib.ListN.{length, take};

@@ -1,5 +1,5 @@
--- The theorems of AES-KDF in steps, over the definitions that the contracts of `start`, `advance` and `finish` equate the code
--- with, so that they hold of the code. Document 01 calls a step of n rounds a helping of n.
+-- The theorems of AES-KDF in steps, over the definitions that the contracts of `start`, `advance` and `finish` equate
+-- the code with, so that they hold of the code. Document 01 calls a step of n rounds a helping of n.
 --
 -- In order:
 --   transformation-of-steps   after any list of steps the halves and the count are those of so many rounds, in one state

@@ -31,7 +31,8 @@ transformedKey composite seed r =
     hash sha256 (halfAfter (keyExpansion seed) r (take 16 composite) ++ halfAfter (keyExpansion seed) r
     (drop 16 composite))
 
--- a transformation under way: whether its rounds were accepted, the key schedule, the halves, the rounds done and asked for
+-- a transformation under way: whether its rounds were accepted, the key schedule, the halves, the rounds done and asked
+-- for
 pub record Transforming : Type 0 where
   pub accepted : Bool
   pub keys : List ℕ

@@ -1,4 +1,5 @@
--- How the struct `Transformation` stands for a transformation under way (AesKdf), and what each of its functions makes of it.
+-- How the struct `Transformation` stands for a transformation under way (AesKdf), and what each of its functions makes
+-- of it.
 -- Assumes nothing.
 use mathlib.Core.Bool.{Bool, true, false}
 use mathlib.Core.List.{List, [], _∷_, _++_}

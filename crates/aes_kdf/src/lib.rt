@@ -1,10 +1,10 @@
-// AES-KDF (document 01, "Keys"): the composite key's two halves, each encrypted R times under AES-256 with the KDF's seed, as a
-// state by value that is advanced a number of rounds at a time.
+// AES-KDF (document 01, "Keys"): the composite key's two halves, each encrypted R times under AES-256 with the KDF's
+// seed, as a state by value that is advanced a number of rounds at a time.
 //
-// The contracts cite specs/AesKdf. Refusals: 11 where the rounds are above the limit, with a state of a mark of its own; 19 where
-// T is asked for before the end, or of a refused state. The rounds done and the halves as they stand after that many are fields
-// of the state. Every value of the struct is a state: one that is refused, or that no call could have made, stays as it is.
-// Table look-ups of AES are not constant-time.
+// The contracts cite specs/AesKdf. Refusals: 11 where the rounds are above the limit, with a state of a mark of its
+// own; 19 where T is asked for before the end, or of a refused state. The rounds done and the halves as they stand
+// after that many are fields of the state. Every value of the struct is a state: one that is refused, or that no call
+// could have made, stays as it is. Table look-ups of AES are not constant-time.
 ghost use mathlib.Core.Path.{_≡_};
 ghost use Prim.Native.Nat.{min};
 ghost use Rattle.aes_kdf.specs.AesKdf as kdf;

@@ -1,10 +1,10 @@
 // The tables of AES, and what a round looks up in them.
 //
-// A round of FIPS 197 takes each byte through the S-box and adds its products to a column. A table of 256 words has, for each
-// byte, its four products at once (te for the cipher, td for the equivalent inverse cipher of 5.3.5), so that a column is four
-// look-ups. Only the S-box is a constant; the other tables are built from it in memory, for each use, and lent.
-// The contracts cite specs/Tables. A look-up is told for any table: that a table is te or td is what building it promises.
-// Table look-ups are not constant-time: the places looked up depend on the key.
+// A round of FIPS 197 takes each byte through the S-box and adds its products to a column. A table of 256 words has,
+// for each byte, its four products at once (te for the cipher, td for the equivalent inverse cipher of 5.3.5), so that
+// a column is four look-ups. Only the S-box is a constant; the other tables are built from it in memory, for each use,
+// and lent. The contracts cite specs/Tables. A look-up is told for any table: that a table is te or td is what building
+// it promises. Table look-ups are not constant-time: the places looked up depend on the key.
 ghost use mathlib.Core.Path.{_≡_};
 ghost use Rattle.gf256.specs.Gf256 as gf256;
 ghost use Rattle.fips197.specs.Fips197.{byteOf};
@@ -91,7 +91,8 @@ fn rotr8(w: u32) -> u32
     (w % 0x100) * 0x100_0000 + w / 0x100
 }
 
-// A column of a round: the entries of four bytes, each moved to its row, added to each other and to a word of the round key.
+// A column of a round: the entries of four bytes, each moved to its row, added to each other and to a word of the round
+// key.
 pub fn column(t: &[u32; 256], a: u32, b: u32, c: u32, d: u32, k: u32) -> u32
     ensures { λ r. ⌜ tables.IsColumn (now (t .entry)) a b c d k r ⌝ }
 {

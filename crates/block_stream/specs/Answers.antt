@@ -1,5 +1,5 @@
--- The number and the values of a block's answer (document 01, "Refusal numbers": "0 is success. A refusal returns its number
--- with zero in every other answer").
+-- The number and the values of a block's answer (document 01, "Refusal numbers": "0 is success. A refusal returns its
+-- number with zero in every other answer").
 --
 --   number, values    the size of the block's data: 0 of the closing block, and on a refusal
 -- Not here: what the answer is (Blocks).

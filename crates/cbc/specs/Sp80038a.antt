@@ -1,12 +1,13 @@
--- NIST SP 800-38A (December 2001), Recommendation for Block Cipher Modes of Operation: the CBC mode, at blocks of 128 bits.
+-- NIST SP 800-38A (December 2001), Recommendation for Block Cipher Modes of Operation: the CBC mode, at blocks of 128
+-- bits.
 --
 --   4.2.2  X ⊕ Y                     words' Xor.xors
 --   5.1    the block cipher          words' Block.IsBlock, Inverse
 --   5.2    strings and their blocks  blocks, wholeBlocks, joined
 --   6.2    CBC Encryption            encryptBlocks, encrypt
 --   6.2    CBC Decryption            decryptBlocks, decrypt
--- A block is the list of its 16 bytes. CIPH and its inverse are arguments, with their key in them. The argument behind them is
--- the block before the first: the IV, or the last ciphertext block of what came before (lastBlock, previous).
+-- A block is the list of its 16 bytes. CIPH and its inverse are arguments, with their key in them. The argument behind
+-- them is the block before the first: the IV, or the last ciphertext block of what came before (lastBlock, previous).
 -- Not here: padding (appendix A); crate pkcs7.
 -- Left out: the other modes; the choice of the IV (appendix C).
 -- Differs: encrypt and decrypt take any string; bytes behind its last whole block are left out.

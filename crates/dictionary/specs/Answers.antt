@@ -1,5 +1,6 @@
--- The number and the values of what a name is found as (document 01, "Refusal numbers": "0 is success. A refusal returns its
--- number with zero in every other answer"; "Header": "A name that isn't there is answered as absent, with nothing shown").
+-- The number and the values of what a name is found as (document 01, "Refusal numbers": "0 is success. A refusal
+-- returns its number with zero in every other answer"; "Header": "A name that isn't there is answered as absent, with
+-- nothing shown").
 --
 --   number    0 of a sound dictionary, whether it has the name or not
 --   values    1, the type, the value's start and length; zeros where there is no such name, or on a refusal

@@ -4,8 +4,8 @@
 //
 // The contracts cite specs/Dictionary. An item is told by its places in the dictionary, and nothing is copied.
 // Refusals: 10 for any fault of the form, 6 for a sound item whose name an earlier item has; the first met from the
-// front is given. Repeated names are searched for in batches (repeats): with a table of 64 places on the stack, and where
-// there are more items with one of 4,096 (16 KiB).
+// front is given. Repeated names are searched for in batches (repeats): with a table of 64 places on the stack, and
+// where there are more items with one of 4,096 (16 KiB).
 ghost use mathlib.Core.Path.{_≡_};
 ghost use Prim.Native.Nat.{_+_, _≤_};
 ghost use lib.ListN.{length};

@@ -2,8 +2,9 @@
 -- definition's, p and y.
 --
 -- In order: answer-accepted, answer-refused; answer-wrote, answer-not-written of an operation that writes into a slice;
--- figuresOr-refused, answer-figures, answer-no-figures of one that answers figures, by its answer's number n; keptOr-wrote,
--- keptOr-17, keptOr-19, keptOr-next of a step's state, by its number; join-is, two halves as code lays them.
+-- figuresOr-refused, answer-figures, answer-no-figures of one that answers figures, by its answer's number n;
+-- keptOr-wrote, keptOr-17, keptOr-19, keptOr-next of a step's state, by its number; join-is, two halves as code lays
+-- them.
 -- Assumes nothing.
 use mathlib.Core.Path.{_≡_, refl, sym, ap, _∙_}
 use mathlib.Core.List.{List, _++_}

@@ -1,5 +1,5 @@
--- What an exported function leaves in the memory that it is lent. Document 01, "Refusal numbers": "A refusal … changes no lent
--- byte".
+-- What an exported function leaves in the memory that it is lent. Document 01, "Refusal numbers": "A refusal … changes
+-- no lent byte".
 --
 --   resultOr      a result, where the operation accepts
 --   figuresOr     figures, where their answer's number is 0

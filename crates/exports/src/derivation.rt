@@ -1,6 +1,6 @@
-// The keys of a vault (document 01, "Keys"): the composite key, AES-KDF, and what T and the master seed give. The contracts cite
-// crate keys' specs/Kdbx4Keys, crate aes_kdf's specs/AesKdf and crate states' specs/AesKdfState. Refusals: of the composite key
-// 1 and 18, of the rounds 11, of T before the end 19.
+// The keys of a vault (document 01, "Keys"): the composite key, AES-KDF, and what T and the master seed give. The
+// contracts cite crate keys' specs/Kdbx4Keys, crate aes_kdf's specs/AesKdf and crate states' specs/AesKdfState.
+// Refusals: of the composite key 1 and 18, of the rounds 11, of T before the end 19.
 ghost use mathlib.Core.Path.{_≡_};
 ghost use Rattle.refusals.specs.Numbers as numbers;
 ghost use mathlib.Core.List.{_++_};

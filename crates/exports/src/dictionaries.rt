@@ -1,5 +1,5 @@
-// Variant dictionaries (document 01, "Header"): checking one, and finding a name in it. The contracts cite crate dictionary's
-// specs/Dictionary with specs/Answers. Refusals: 10 and 6.
+// Variant dictionaries (document 01, "Header"): checking one, and finding a name in it. The contracts cite crate
+// dictionary's specs/Dictionary with specs/Answers. Refusals: 10 and 6.
 ghost use mathlib.Core.Path.{_≡_};
 ghost use Rattle.refusals.specs.Numbers as numbers;
 ghost use Rattle.dictionary.specs.Dictionary as kdbx4;

@@ -1,5 +1,6 @@
-// Hashes (FIPS 180-4) and tags (RFC 2104): of whole messages, and hashes in parts over a state that is lent as bytes. The
-// contracts cite the definitions of crates sha256, sha512 and hmac, and of crate states. Refusal: 1, with the state as it was.
+// Hashes (FIPS 180-4) and tags (RFC 2104): of whole messages, and hashes in parts over a state that is lent as bytes.
+// The contracts cite the definitions of crates sha256, sha512 and hmac, and of crate states. Refusal: 1, with the state
+// as it was.
 ghost use mathlib.Core.Path.{_≡_};
 ghost use Rattle.refusals.specs.Numbers as numbers;
 ghost use Rattle.sha256.specs.State as sha256;

@@ -1,6 +1,6 @@
-// The inner header of a payload (document 01, "Inner header"): what it says and its attachments, as figures, and its writing.
-// The contracts cite crate inner_header's specs/InnerHeader with specs/Answers, and specs/Writer. Refusals: of reading 1, 2, 5
-// to 9; of writing 9, of the run 2, 7 and 5, 1, 17.
+// The inner header of a payload (document 01, "Inner header"): what it says and its attachments, as figures, and its
+// writing. The contracts cite crate inner_header's specs/InnerHeader with specs/Answers, and specs/Writer. Refusals: of
+// reading 1, 2, 5 to 9; of writing 9, of the run 2, 7 and 5, 1, 17.
 ghost use mathlib.Core.Path.{_≡_};
 ghost use lib.ListN.{length};
 ghost use Rattle.refusals.specs.Numbers as numbers;
@@ -49,7 +49,8 @@ pub extern "C" fn kdbx4_attachment(payload: &[u8], index: usize, figures: &mut [
     }
 }
 
-// The payload of an algorithm, a key, a run of attachments and a document: over the front of `out`, and its length in `count`.
+// The payload of an algorithm, a key, a run of attachments and a document: over the front of `out`, and its length in
+// `count`.
 #[no_mangle]
 pub extern "C" fn kdbx4_inner_write(
     algorithm: u32,

@@ -1,6 +1,7 @@
-// Vaults under the transformed key T (document 01, "File after the header"): opening whole, and block by block over a state that
-// is lent as bytes; writing. The contracts cite the definitions of crates vault, opening, states and writer. Refusals: of opening
-// 1 to 17, of the start 1 to 13, of a step 19, 1, 2, 5, 14 to 17, of writing 4, 9, 5, 11, 10 or 6, 1, 17.
+// Vaults under the transformed key T (document 01, "File after the header"): opening whole, and block by block over a
+// state that is lent as bytes; writing. The contracts cite the definitions of crates vault, opening, states and writer.
+// Refusals: of opening 1 to 17, of the start 1 to 13, of a step 19, 1, 2, 5, 14 to 17, of writing 4, 9, 5, 11, 10 or 6,
+// 1, 17.
 ghost use mathlib.Core.Path.{_≡_};
 ghost use lib.ListN.{length};
 ghost use Rattle.refusals.specs.Numbers as numbers;
@@ -31,7 +32,8 @@ pub extern "C" fn kdbx4_open(file: &[u8], t: &[u8; 32], out: &mut [u8], count: &
     }
 }
 
-// Starts a block-by-block opening: the checks up to the header's tag, and the state. A refused start gives a closed state.
+// Starts a block-by-block opening: the checks up to the header's tag, and the state. A refused start gives a closed
+// state.
 #[no_mangle]
 pub extern "C" fn kdbx4_start(file: &[u8], t: &[u8; 32], state: &mut [u8; 410]) -> u8
     ensures { λ r. ⌜ r ≡ numbers.ofOutcome (vault.outcomeOf (vault.start (now (t .entry)) (now (file .entry)))) ⌝ }
@@ -45,7 +47,8 @@ pub extern "C" fn kdbx4_start(file: &[u8], t: &[u8; 32], state: &mut [u8; 410]) 
     outcome.number()
 }
 
-// Takes the next block: what it makes due over the front of `out`, and its length in `count`. 17 and 19 leave the state.
+// Takes the next block: what it makes due over the front of `out`, and its length in `count`. 17 and 19 leave the
+// state.
 #[no_mangle]
 pub extern "C" fn kdbx4_step(
     state: &mut [u8; 410],

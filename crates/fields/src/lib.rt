@@ -2,9 +2,9 @@
 //
 //   ID (one byte) | size (Int32) | value
 //
-// Both headers read their fields by `field_at`. What differs between them (which IDs are listed, which may recur, how long a
-// value may be) comes as arguments. The contracts cite specs/Fields. Values are told by their places, and nothing is copied.
-// Refusals: 2, 7, 6, 5 and 2, in this order. `put` writes a field.
+// Both headers read their fields by `field_at`. What differs between them (which IDs are listed, which may recur, how
+// long a value may be) comes as arguments. The contracts cite specs/Fields. Values are told by their places, and
+// nothing is copied. Refusals: 2, 7, 6, 5 and 2, in this order. `put` writes a field.
 ghost use mathlib.Core.Path.{_≡_};
 ghost use Prim.Native.Nat.{_+_, _≤_};
 ghost use lib.ListN.{length};
@@ -66,7 +66,8 @@ fn value_at(s: &[u8], at: usize, rule: SizeRule) -> Field
     }
 }
 
-// The field at a place. Whether its ID is listed, whether it came before, and the rule of its size are told by the caller.
+// The field at a place. Whether its ID is listed, whether it came before, and the rule of its size are told by the
+// caller.
 pub fn field_at(s: &[u8], at: usize, listed: bool, repeated: bool, rule: SizeRule) -> Field
     ensures { λ r. ⌜ r ≡ fields.fieldAt listed repeated rule (now (s .entry)) at ⌝ }
 {

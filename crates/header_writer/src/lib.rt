@@ -2,8 +2,8 @@
 //
 //   signatures, version | 2 cipher | 3 compression | 4 master seed | 7 nonce | 11 KDF dictionary | 12 custom | 0 end
 //
-// `check` makes the writer's checks of the figures, `write` lays the header, `header_len` tells its length beforehand. The
-// contracts cite specs/Written. Refusals: 4, 9, 5, 11, then 10 or 6.
+// `check` makes the writer's checks of the figures, `write` lays the header, `header_len` tells its length beforehand.
+// The contracts cite specs/Written. Refusals: 4, 9, 5, 11, then 10 or 6.
 ghost use mathlib.Core.Path.{_≡_};
 ghost use Prim.Native.Nat.{_≤_};
 ghost use lib.ListN.{length, take};
@@ -128,7 +128,8 @@ fn write_end(out: &mut [u8], at: usize, custom: &[u8])
     fields::put(out, at + 5 + custom.len(), 0, &end);
 }
 
-// Lays a header at the front of `out`, as far as there is room. A nonce has at most sixteen bytes; more are not looked at.
+// Lays a header at the front of `out`, as far as there is room. A nonce has at most sixteen bytes; more are not looked
+// at.
 pub fn write(
     minor: u16,
     c: Cipher,

@@ -1,6 +1,8 @@
--- The theorem of HMAC-SHA-256 in parts: a finish after any list of feeds is RFC 2104's tag of the accepted parts joined.
+-- The theorem of HMAC-SHA-256 in parts: a finish after any list of feeds is RFC 2104's tag of the accepted parts
+-- joined.
 --
--- It is over the definitions that the contracts of `start`, `feed` and `finish` equate the code with, so it holds of the code.
+-- It is over the definitions that the contracts of `start`, `feed` and `finish` equate the code with, so it holds of
+-- the code.
 -- In order: hmac-sha256-of-parts (whichever are refused), hmac-sha256-of-joined (within the limit), hmac-sha256-of-one.
 -- Assumes nothing.
 use mathlib.Core.Path.{_≡_, refl, ap, _∙_}

@@ -1,4 +1,5 @@
--- How the struct `Hmac` stands for a tag under way (Tagging), and what each of its functions makes of it. Assumes nothing.
+-- How the struct `Hmac` stands for a tag under way (Tagging), and what each of its functions makes of it. Assumes
+-- nothing.
 use mathlib.Core.List.{List, [], _∷_}
 use Prim.Native.Nat.{ℕ}
 use Rattle.sha2.specs.Fips180.{sha256}

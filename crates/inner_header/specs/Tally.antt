@@ -1,5 +1,5 @@
--- What the code keeps of an inner header's fields: not the list of attachments, but their number and the place of the one that
--- is asked for.
+-- What the code keeps of an inner header's fields: not the list of attachments, but their number and the place of the
+-- one that is asked for.
 --
 -- Not here: the fields themselves (InnerHeader).
 -- Assumes nothing.

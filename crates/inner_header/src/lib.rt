@@ -3,9 +3,9 @@
 //
 //   ID, size, value | ID, size, value | … | 00, 0 | document
 //
-// The contracts cite specs/InnerHeader, and specs/Tally for what is kept of the fields. Values are told by their places in the
-// payload, and nothing is copied. Fields may come in any order. Refusals: 1; of each field 2, 7, 6, 5, 2; 8, 9; and 8 for an
-// attachment index past the last. Each operation walks over the fields once.
+// The contracts cite specs/InnerHeader, and specs/Tally for what is kept of the fields. Values are told by their places
+// in the payload, and nothing is copied. Fields may come in any order. Refusals: 1; of each field 2, 7, 6, 5, 2; 8, 9;
+// and 8 for an attachment index past the last. Each operation walks over the fields once.
 ghost use mathlib.Core.Path.{_≡_};
 ghost use Prim.Native.Nat.{_<_};
 ghost use lib.ListN.{length};

@@ -1,5 +1,5 @@
--- The number and the values of what a KDF dictionary asks for (document 01, "Refusal numbers": "0 is success. A refusal returns
--- its number with zero in every other answer").
+-- The number and the values of what a KDF dictionary asks for (document 01, "Refusal numbers": "0 is success. A refusal
+-- returns its number with zero in every other answer").
 --
 --   number, values    the seed's start and length, and the rounds; zeros on a refusal
 -- Not here: what the answer is (KdfDictionary).

@@ -1,9 +1,9 @@
-// The keys of a vault (document 01, "Keys"): the composite key from what the user has, and the cipher key and tag keys from the
-// transformed key T and the header's master seed.
+// The keys of a vault (document 01, "Keys"): the composite key from what the user has, and the cipher key and tag keys
+// from the transformed key T and the header's master seed.
 //
-// The contracts cite specs/Kdbx4Keys. A credential is a slice with a flag that says whether it was given: an empty password is a
-// part of the key, an absent one is not. Refusals, in order: 1 for a password or key file over its limit; 18 for no credential,
-// a pre-hash that is not 32 bytes, or one that is given with another credential.
+// The contracts cite specs/Kdbx4Keys. A credential is a slice with a flag that says whether it was given: an empty
+// password is a part of the key, an absent one is not. Refusals, in order: 1 for a password or key file over its limit;
+// 18 for no credential, a pre-hash that is not 32 bytes, or one that is given with another credential.
 ghost use mathlib.Core.Path.{_≡_};
 ghost use mathlib.Core.Bool.{false, not};
 ghost use mathlib.Core.List.{_++_};

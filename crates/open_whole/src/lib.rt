@@ -1,8 +1,8 @@
 // The whole opener behind the header's tag (document 01, "File after the header").
 //
-// `open_blocks` makes the checks of all blocks in one pass over the file (module survey: 1, 2, 5, 14 and 15), then 16 and
-// 17, and writes nothing before all of them are settled. Then the ciphertext is copied out of the blocks by their sizes
-// (module text) and decrypted where it stands. The contract cites opening's specs/Whole.
+// `open_blocks` makes the checks of all blocks in one pass over the file (module survey: 1, 2, 5, 14 and 15), then 16
+// and 17, and writes nothing before all of them are settled. Then the ciphertext is copied out of the blocks by their
+// sizes (module text) and decrypted where it stands. The contract cites opening's specs/Whole.
 //
 //   AES-256     the last piece is decrypted first, by itself: its padding says how long the payload is
 //   ChaCha20    the payload is as long as the ciphertext

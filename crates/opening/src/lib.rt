@@ -1,14 +1,15 @@
-// What opening a vault means (document 01, "File after the header"): whole, block by block, and by the plain opener of demand 3.
+// What opening a vault means (document 01, "File after the header"): whole, block by block, and by the plain opener of
+// demand 3.
 //
-// The types of the openers' states and answers stand here; the code is in the crates opener and open_whole. specs/ has the
-// definitions that its contracts cite, and Agreement the claim of demand 3; proofs/Theorem proves it.
+// The types of the openers' states and answers stand here; the code is in the crates opener and open_whole. specs/ has
+// the definitions that its contracts cite, and Agreement the claim of demand 3; proofs/Theorem proves it.
 use aes::RoundKeys;
 use ciphers::Cipher;
 use refusals::Outcome;
 use refusals::Written;
 
-// What T and a header give: AES-256 has round keys, ChaCha20 its key, and what the other one would need is zero. ChaCha20's
-// nonce is the first twelve bytes.
+// What T and a header give: AES-256 has round keys, ChaCha20 its key, and what the other one would need is zero.
+// ChaCha20's nonce is the first twelve bytes.
 pub struct Keys {
     pub cipher: Cipher,
     pub key: [u8; 32],

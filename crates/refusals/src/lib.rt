@@ -1,7 +1,8 @@
-// The refusal numbers and the limits of the terminal, each once (document 01, "Refusal numbers" and "Numbers of the terminal").
+// The refusal numbers and the limits of the terminal, each once (document 01, "Refusal numbers" and "Numbers of the
+// terminal").
 //
-// An operation answers an `Outcome`, or an enum of its own with a case for a `Refusal`; what number a refusal has is said here
-// alone. The contracts cite specs/Numbers and specs/Limits.
+// An operation answers an `Outcome`, or an enum of its own with a case for a `Refusal`; what number a refusal has is
+// said here alone. The contracts cite specs/Numbers and specs/Limits.
 ghost use mathlib.Core.Path.{_≡_};
 ghost use Rattle.refusals.specs.Numbers as numbers;
 

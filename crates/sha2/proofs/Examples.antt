@@ -1,4 +1,5 @@
--- Worked examples of the standard (NIST's "SHA256" and "SHA512" example files for FIPS 180-4), computed. Assumes nothing.
+-- Worked examples of the standard (NIST's "SHA256" and "SHA512" example files for FIPS 180-4), computed. Assumes
+-- nothing.
 use mathlib.Core.Path.{_≡_, refl}
 use mathlib.Core.List.{[], _∷_}
 use Rattle.words.specs.Endian.{be, beBytes}

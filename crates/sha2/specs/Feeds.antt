@@ -12,7 +12,8 @@ unfoldable pub feeds : Sha2 → ℕ → Hashing → List (List ℕ) → Hashing
 feeds p limit h [] = h
 feeds p limit h (s ∷ ss) = feeds p limit (feedTo p limit h s .next) ss
 
--- the accepted parts joined, where n bytes came before: a part that would pass the limit is left out, and the next is tried
+-- the accepted parts joined, where n bytes came before: a part that would pass the limit is left out, and the next is
+-- tried
 unfoldable pub accepted : ℕ → ℕ → List (List ℕ) → List ℕ
 accepted limit n [] = []
 accepted limit n (s ∷ ss) = cond (leb (n + length s) limit) (s ++ accepted limit (n + length s) ss)

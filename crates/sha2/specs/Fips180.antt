@@ -37,7 +37,8 @@ bigSigma n i j k x = bitXor (bitXor (rotr n i x) (rotr n j x)) (rotr n k x)
 abbrev pub smallSigma : ℕ → ℕ → ℕ → ℕ → ℕ → ℕ
 smallSigma n i j k x = bitXor (bitXor (rotr n i x) (rotr n j x)) (shr k x)
 
--- what the two algorithms differ in: the width of a word in bits and in bytes, the four functions, the constants, the initial hash value
+-- what the two algorithms differ in: the width of a word in bits and in bytes, the four functions, the constants, the
+-- initial hash value
 pub record Sha2 : Type 0 where
   pub bits : ℕ
   pub bytes : ℕ
@@ -53,7 +54,8 @@ abbrev pub blockBytes : Sha2 → ℕ
 blockBytes p = 16 * p .bytes
 
 -- 5.1: the k of "the smallest, non-negative solution to the equation l + 1 + k ≡ 448 mod 512" (896 mod 1024), in bytes:
--- behind n bytes of message stand the byte 80, these zero bytes and the length in two words (Laws.Padding, zeroBytes-fit, zeroBytes-least)
+-- behind n bytes of message stand the byte 80, these zero bytes and the length in two words (Laws.Padding,
+-- zeroBytes-fit, zeroBytes-least)
 unfoldable pub zeroBytes : Sha2 → ℕ → ℕ
 zeroBytes p n = (2 * blockBytes p - (2 * p .bytes + 1) - n % blockBytes p) % blockBytes p
 

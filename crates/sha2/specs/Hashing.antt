@@ -1,8 +1,9 @@
 -- A hash under way, over both algorithms: what a feed and a finish make of a state's three parts.
 --
--- Every value of the parts is a state. How many bytes are pending follows from the total; bytes of the buffer behind them count
--- for nothing. A total over the limit, which no call makes, refuses every feed, the empty one too.
--- Not here: the standard (Fips180); that a state so fed gives the standard's hash (proofs, Laws.Feeding and Laws.Feeds).
+-- Every value of the parts is a state. How many bytes are pending follows from the total; bytes of the buffer behind
+-- them count for nothing. A total over the limit, which no call makes, refuses every feed, the empty one too.
+-- Not here: the standard (Fips180); that a state so fed gives the standard's hash (proofs, Laws.Feeding and
+-- Laws.Feeds).
 -- Assumes nothing.
 use mathlib.Core.Bool.{cond}
 use mathlib.Core.List.{List, _++_}

@@ -1,7 +1,9 @@
 -- The theorem of SHA-256 in parts: a finish after any list of feeds is FIPS 180-4's hash of the accepted parts joined.
 --
--- It is over the definitions that the contracts of `start`, `feed` and `finish` equate the code with, so it holds of the code.
--- In order: held-feeds, sha256-of-parts (whichever are refused), sha256-of-joined (within the limit), sha256-of-two, sha256-of-three.
+-- It is over the definitions that the contracts of `start`, `feed` and `finish` equate the code with, so it holds of
+-- the code.
+-- In order: held-feeds, sha256-of-parts (whichever are refused), sha256-of-joined (within the limit), sha256-of-two,
+-- sha256-of-three.
 -- Assumes nothing.
 use mathlib.Core.Path.{_≡_, refl, ap, _∙_}
 use mathlib.Core.List.{List, [], _∷_, _++_, append-nil}

@@ -1,4 +1,5 @@
--- How the struct `Sha256` stands for a hash under way (sha2's Hashing), and what each of its functions makes of it. Assumes nothing.
+-- How the struct `Sha256` stands for a hash under way (sha2's Hashing), and what each of its functions makes of it.
+-- Assumes nothing.
 use mathlib.Core.List.{List, [], _∷_}
 use Prim.Native.Nat.{ℕ}
 use Rattle.refusals.specs.Limits.{messageLimit}

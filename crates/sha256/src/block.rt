@@ -1,4 +1,5 @@
-// FIPS 180-4, 5.2.1 and 6.2.2: SHA-256's message schedule, one block, and all whole blocks of a slice, straight from it.
+// FIPS 180-4, 5.2.1 and 6.2.2: SHA-256's message schedule, one block, and all whole blocks of a slice, straight from
+// it.
 //
 // The constants are lent, since a constant that is read at an index is copied whole at each reading.
 ghost use mathlib.Core.Path.{_≡_};

@@ -1,7 +1,9 @@
 -- The theorem of SHA-512 in parts: a finish after any list of feeds is FIPS 180-4's hash of the accepted parts joined.
 --
--- It is over the definitions that the contracts of `start`, `feed` and `finish` equate the code with, so it holds of the code.
--- In order: held-feeds, sha512-of-parts (whichever are refused), sha512-of-joined (within the limit), sha512-of-two, sha512-of-three.
+-- It is over the definitions that the contracts of `start`, `feed` and `finish` equate the code with, so it holds of
+-- the code.
+-- In order: held-feeds, sha512-of-parts (whichever are refused), sha512-of-joined (within the limit), sha512-of-two,
+-- sha512-of-three.
 -- Assumes nothing.
 use mathlib.Core.Path.{_≡_, refl, ap, _∙_}
 use mathlib.Core.List.{List, [], _∷_, _++_, append-nil}

@@ -1,7 +1,7 @@
 // Slices of bytes: copying into a lent one, comparing two, a part of one, zeroing; and the lesser of two lengths.
 //
-// The contracts cite specs/Over (what stands in a lent slice after a writing) and specs/Same. Every function answers every
-// input: a copy takes as many bytes as there is room for, and slices of two lengths differ.
+// The contracts cite specs/Over (what stands in a lent slice after a writing) and specs/Same. Every function answers
+// every input: a copy takes as many bytes as there is room for, and slices of two lengths differ.
 ghost use mathlib.Core.Path.{_≡_};
 ghost use Prim.Native.Nat.{min};
 ghost use lib.ListN.{length, take, drop, replicate};
@@ -39,7 +39,8 @@ pub fn put(out: &mut [u8], at: usize, s: &[u8])
     }
 }
 
-// Whether two slices are equal. Every byte is looked at, whichever of them differ: only the lengths tell in the time taken.
+// Whether two slices are equal. Every byte is looked at, whichever of them differ: only the lengths tell in the time
+// taken.
 pub fn same(a: &[u8], b: &[u8]) -> bool
     ensures { λ r. ⌜ r ≡ sameLists (now (a .entry)) (now (b .entry)) ⌝ }
 {

@@ -1,7 +1,7 @@
 -- Demand 3: opening block by block agrees with opening whole, for every T, file and list of steps.
 --
--- It is over the definitions that the contracts of `start`, `open` and opener's `step` equate the code with, so it holds of the
--- code. What the record says after a list of steps is in crate opening, specs/Agreement.
+-- It is over the definitions that the contracts of `start`, `open` and opener's `step` equate the code with, so it
+-- holds of the code. What the record says after a list of steps is in crate opening, specs/Agreement.
 -- Assumes nothing.
 use mathlib.Core.Path.{_≡_, ap, _∙_}
 use mathlib.Core.List.{List}

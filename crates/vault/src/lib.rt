@@ -1,10 +1,11 @@
-// Opening a vault from its first byte (document 01, "File after the header"): the start of a block-by-block opening, and the
-// whole opening.
+// Opening a vault from its first byte (document 01, "File after the header"): the start of a block-by-block opening,
+// and the whole opening.
 //
 //   outer header | SHA-256 of it | HMAC-SHA-256 of it | block | block | … | closing block
 //
-// `start` and `open` make the same checks up to the header's tag; a step is opener's `step`. The contracts cite specs/Vault.
-// Refusals: the header's 1 to 11, then 2, 12 and 13; of the whole opening also those of the blocks, and 17 last.
+// `start` and `open` make the same checks up to the header's tag; a step is opener's `step`. The contracts cite
+// specs/Vault. Refusals: the header's 1 to 11, then 2, 12 and 13; of the whole opening also those of the blocks, and 17
+// last.
 ghost use mathlib.Core.Path.{_≡_};
 ghost use Prim.Native.Nat.{_+_, _≤_};
 ghost use lib.ListN.{length};
@@ -27,7 +28,8 @@ use refusals::Outcome;
 use refusals::Refusal;
 use refusals::Written;
 
-// The checks up to the header's tag: their outcome, and, where it is accepted, the keys and the place of the first block.
+// The checks up to the header's tag: their outcome, and, where it is accepted, the keys and the place of the first
+// block.
 struct Checked {
     pub outcome: Outcome,
     pub keys: Keys,
@@ -137,8 +139,8 @@ fn check(f: &[u8], t: [u8; 32]) -> Checked
     }
 }
 
-// Starts a block-by-block opening: the checks up to the header's tag, and the state for the first step. A refused start gives
-// a closed state.
+// Starts a block-by-block opening: the checks up to the header's tag, and the state for the first step. A refused start
+// gives a closed state.
 pub fn start(f: &[u8], t: [u8; 32]) -> Started
     ensures { λ r. ⌜ r .outcome ≡ kdbx4.outcomeOf (kdbx4.start t (now (f .entry))) ⌝ }
     ensures { λ r. ⌜ r .next ≡ kdbx4.stateOf (kdbx4.start t (now (f .entry))) ⌝ }

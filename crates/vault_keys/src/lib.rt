@@ -1,5 +1,5 @@
-// The keys of a vault as its openers and its writer use them (document 01, "Keys" and "File after the header"), and the tag of
-// its header. The contracts cite specs/VaultKeys.
+// The keys of a vault as its openers and its writer use them (document 01, "Keys" and "File after the header"), and the
+// tag of its header. The contracts cite specs/VaultKeys.
 ghost use mathlib.Core.Path.{_≡_};
 ghost use Rattle.vault_keys.specs.VaultKeys as kdbx4;
 use aes::RoundKeys;

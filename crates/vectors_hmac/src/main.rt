@@ -1,9 +1,10 @@
 // HMAC-SHA-256 on RFC 4231's test cases, on keys and messages by rule, and at the limit of a message.
 //
-// A row is `name form length number tag` (the crate `vectors`). The forms: `case1` to `case7` of RFC 4231, of which case 5 is
-// cut to 16 bytes, as there; `keyN`, a key of N bytes and the message in one call; `keyN-parts`, the message in parts with an
-// empty feed before each; `over`, a feed that would pass the limit; `limit`, up to the limit; `past` and `empty`, one byte
-// more there and none. tools/vectors_hmac.py writes the stored stdout with Python's hmac, that is with OpenSSL.
+// A row is `name form length number tag` (the crate `vectors`). The forms: `case1` to `case7` of RFC 4231, of which
+// case 5 is cut to 16 bytes, as there; `keyN`, a key of N bytes and the message in one call; `keyN-parts`, the message
+// in parts with an empty feed before each; `over`, a feed that would pass the limit; `limit`, up to the limit; `past`
+// and `empty`, one byte more there and none. tools/vectors_hmac.py writes the stored stdout with Python's hmac, that is
+// with OpenSSL.
 ghost use Prim.Native.Nat.{_<_};
 use hmac::Hmac;
 use hmac::Keyed;
@@ -99,8 +100,8 @@ fn truncated(form: &[u8], key: &[u8], m: &[u8]) {
     );
 }
 
-// A message in parts, the first of `first` bytes, the next by the rule of `next_size`; the last is what is left. The number
-// is the last feed's.
+// A message in parts, the first of `first` bytes, the next by the rule of `next_size`; the last is what is left. The
+// number is the last feed's.
 fn parts(form: &[u8], key: &[u8], m: &[u8], first: usize)
     requires { ⌜ 0 < first ⌝ }
 {

@@ -1,8 +1,8 @@
 // SHA-256 and SHA-512 on published examples and on messages by rule, whole and in parts, and at the limit of a message.
 //
-// A row is `name form length number digest` (the crate `vectors`). The forms: an example's own name; `whole`, in one call;
-// `bytes`, fed byte by byte; `parts`, fed in parts whose lengths change, in both with an empty feed before each; `over`, a
-// feed that would pass the limit; `limit`, up to the limit; `past` and `empty`, one byte more there and none.
+// A row is `name form length number digest` (the crate `vectors`). The forms: an example's own name; `whole`, in one
+// call; `bytes`, fed byte by byte; `parts`, fed in parts whose lengths change, in both with an empty feed before each;
+// `over`, a feed that would pass the limit; `limit`, up to the limit; `past` and `empty`, one byte more there and none.
 // tools/vectors_sha2.py writes the stored stdout with Python's hashlib, that is with OpenSSL.
 mod on_sha256;
 mod on_sha512;

@@ -49,8 +49,8 @@ fn whole(form: &[u8], m: &[u8]) {
     vectors::row(b"sha256", form, m.len(), o.number(), &d);
 }
 
-// A message in parts, the first of `first` bytes, the next by the rule of `next_size`; the last is what is left. The number
-// is the last feed's.
+// A message in parts, the first of `first` bytes, the next by the rule of `next_size`; the last is what is left. The
+// number is the last feed's.
 fn parts(form: &[u8], m: &[u8], first: usize, longest: u8)
     requires { ⌜ 0 < first ⌝ }
 {

@@ -1,7 +1,7 @@
 // Machine words: sums, and the bytes that numbers are read from and written as, in both orders.
 //
-// The contracts cite specs/Word (sums) and specs/Endian (a number and its bytes). Every function answers every input: where a
-// reading runs past the end of a slice, the missing bytes count as zeros, as in the definitions.
+// The contracts cite specs/Word (sums) and specs/Endian (a number and its bytes). Every function answers every input:
+// where a reading runs past the end of a slice, the missing bytes count as zeros, as in the definitions.
 ghost use mathlib.Core.Path.{_≡_};
 ghost use lib.ListN.{getD};
 ghost use Rattle.words.specs.Word as word;

@@ -57,7 +57,8 @@ unfoldable pub encryptionBy : Cipher → Keys → List ℕ → List ℕ
 encryptionBy Aes256 k b = aes256Cbc.encrypt (k .«round_keys» .words) (k .nonce) (pad b)
 encryptionBy ChaCha20 k b = chaChaFrom k 0 b
 
--- the ciphertext t in blocks from number i on, the closing block last; m counts down from the length of t, and never ends it
+-- the ciphertext t in blocks from number i on, the closing block last; m counts down from the length of t, and never
+-- ends it
 unfoldable pub blocksFrom : ℕ → List ℕ → ℕ → List ℕ → List ℕ
 blocksFrom zero base i t = blockBytes base i []
 blocksFrom (suc m) base i t =

@@ -34,8 +34,8 @@ fn lay_text(c: Cipher, piece: &[u8], out: &mut [u8])
     }
 }
 
-// Encrypts a stretch of the text where it stands: `prev` is the ciphertext piece before it, `at` the position of its first
-// byte. The answer is the piece for what follows.
+// Encrypts a stretch of the text where it stands: `prev` is the ciphertext piece before it, `at` the position of its
+// first byte. The answer is the piece for what follows.
 fn encrypt(keys: Keys, prev: [u8; 16], at: u64, out: &mut [u8]) -> [u8; 16]
     ensures { λ r. ⌜ r ≡ stretches.prevBy (keys .cipher) keys prev (now (out .entry)) ⌝ }
     ensures { λ _. ⌜ now (out .exit) ≡ over (stretches.stretchBy (keys .cipher) keys prev at (now (out .entry))) (now (out .entry)) ⌝ }

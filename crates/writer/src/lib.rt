@@ -2,9 +2,10 @@
 //
 //   header | its hash (32 bytes) | its tag (32 bytes) | data blocks | closing block
 //
-// `write` makes every check before it writes a byte: what is refused leaves the lent slice as it was. The contract cites
-// specs/Written. Refusals: 4, 9, 5, 11, then 10 or 6, then 1 and 17, in this order. The nonce and the seeds are the caller's:
-// nothing here makes them, and the payload is not looked at. AES-256's table look-ups are not constant-time.
+// `write` makes every check before it writes a byte: what is refused leaves the lent slice as it was. The contract
+// cites specs/Written. Refusals: 4, 9, 5, 11, then 10 or 6, then 1 and 17, in this order. The nonce and the seeds are
+// the caller's: nothing here makes them, and the payload is not looked at. AES-256's table look-ups are not
+// constant-time.
 ghost use mathlib.Core.Path.{_≡_};
 ghost use Prim.Native.Nat.{_+_, _≤_};
 ghost use lib.ListN.{length, take};
@@ -170,8 +171,8 @@ fn write_checked(
     Written::Refused(Refusal::TooLong)
 }
 
-// Writes the vault of minor version, cipher's identifier, master seed, nonce, KDF seed, rounds, custom dictionary (of no bytes
-// where it is absent), T and payload over the front of `out`.
+// Writes the vault of minor version, cipher's identifier, master seed, nonce, KDF seed, rounds, custom dictionary (of
+// no bytes where it is absent), T and payload over the front of `out`.
 pub fn write(
     minor: u16,
     cipher: &[u8],

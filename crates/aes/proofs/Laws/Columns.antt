@@ -1,7 +1,7 @@
 -- A block and the words of its four columns.
 --
--- In order: columns-is (by the bytes of the words), columns-word (by four bytes each), columns-xor, columns-key (a round key
--- added).
+-- In order: columns-is (by the bytes of the words), columns-word (by four bytes each), columns-xor, columns-key (a
+-- round key added).
 -- Not here: words and their bytes (fips197, Laws.Words).
 -- Assumes nothing.
 use mathlib.Core.Path.{_≡_, _∙_}

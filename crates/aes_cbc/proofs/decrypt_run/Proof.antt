@@ -1,5 +1,5 @@
--- `aes_cbc::decrypt_run` meets its contract. The invariant: i blocks are decrypted where they stood, and before is the last
--- ciphertext block among them. Assumes nothing.
+-- `aes_cbc::decrypt_run` meets its contract. The invariant: i blocks are decrypted where they stood, and before is the
+-- last ciphertext block among them. Assumes nothing.
 use mathlib.Core.Path.{_≡_, refl, sym, ap, _∙_}
 use mathlib.Core.List.{List}
 use Prim.Native.Nat.{ℕ, _+_, _*_, _-_, _/_, _^_, _<_, _≤_}

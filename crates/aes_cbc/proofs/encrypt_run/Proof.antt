@@ -1,4 +1,5 @@
--- `aes_cbc::encrypt_run` meets its contract. The invariant: i blocks are encrypted where they stood, and before is the last of them.
+-- `aes_cbc::encrypt_run` meets its contract. The invariant: i blocks are encrypted where they stood, and before is the
+-- last of them.
 -- Assumes nothing.
 use mathlib.Core.Path.{_≡_, refl, sym, ap, _∙_}
 use mathlib.Core.List.{List}

@@ -1,4 +1,5 @@
--- `dictionary::search` meets its contract. The invariant: the walk from here, over the items left, is the whole walk. Assumes nothing.
+-- `dictionary::search` meets its contract. The invariant: the walk from here, over the items left, is the whole walk.
+-- Assumes nothing.
 use mathlib.Core.Path.{_≡_, refl, sym, _∙_}
 use native.Mathlib.Omega.{arith}
 use denote.Ref.{now}

@@ -1,7 +1,7 @@
 -- Fields of a header.
 --
--- In order: Stands, fieldAt-stands (a field that is found has the ID at its place, and its value stands behind the five bytes,
--- within the file).
+-- In order: Stands, fieldAt-stands (a field that is found has the ID at its place, and its value stands behind the five
+-- bytes, within the file).
 -- Not here: reading back what was written (Laws.Written).
 -- Assumes nothing.
 use mathlib.Core.Path.{_≡_, refl}

@@ -1,5 +1,5 @@
--- MixColumns() and InvMixColumns() on a column of bytes: both are linear, so that each undoes the other where it does so for the
--- columns with one bit set.
+-- MixColumns() and InvMixColumns() on a column of bytes: both are linear, so that each undoes the other where it does
+-- so for the columns with one bit set.
 --
 -- In order:
 --   Linear4, linear4-same     linear functions of four bytes, by their values at powers of two

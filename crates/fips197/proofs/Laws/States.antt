@@ -1,5 +1,5 @@
--- States as lists of sixteen: a state by its rows and columns is itself, two states are equal by their bytes, and a state made of
--- bytes is a block.
+-- States as lists of sixteen: a state by its rows and columns is itself, two states are equal by their bytes, and a
+-- state made of bytes is a block.
 --
 -- In order: state-own, state-same, state-take, state-block.
 -- Assumes nothing.

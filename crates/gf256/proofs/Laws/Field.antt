@@ -1,5 +1,5 @@
--- Multiplication in GF(2^8) is linear in its second factor, and gives bytes. Two linear functions that agree at the powers of two
--- agree at every byte: eight values are tested, not 256.
+-- Multiplication in GF(2^8) is linear in its second factor, and gives bytes. Two linear functions that agree at the
+-- powers of two agree at every byte: eight values are tested, not 256.
 --
 -- In order:
 --   gmul-xor, gmul-lt                  products

@@ -1,4 +1,5 @@
--- The S-box: its table, which one computed test holds against the rule of 5.1.1, and its inverse, which is its one place.
+-- The S-box: its table, which one computed test holds against the rule of 5.1.1, and its inverse, which is its one
+-- place.
 --
 -- In order:
 --   gmul-ginv                           4.4: the inverse is one

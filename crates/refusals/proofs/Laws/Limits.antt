@@ -1,4 +1,5 @@
--- What proofs know of the limits: these laws, and not their digits. A limit that changes has only this file to answer to.
+-- What proofs know of the limits: these laws, and not their digits. A limit that changes has only this file to answer
+-- to.
 --
 -- In order:
 --   message-file, message-password, message-key-file, message-blocks

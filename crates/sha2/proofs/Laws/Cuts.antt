@@ -1,4 +1,5 @@
--- Feeding two lists one after the other is feeding them joined: an equation of states, buffer and all, for every state whose buffer is a block long.
+-- Feeding two lists one after the other is feeding them joined: an equation of states, buffer and all, for every state
+-- whose buffer is a block long.
 --
 -- In order: kept-append, absorbed-append.
 -- Not here: what a state means (Feeding).

@@ -1,4 +1,5 @@
--- The theorem of hashing in parts: a finish after any list of feeds is the standard's hash of the accepted parts joined.
+-- The theorem of hashing in parts: a finish after any list of feeds is the standard's hash of the accepted parts
+-- joined.
 --
 -- In order:
 --   feed-taken, feed-refused       a feed within the limit, and past it

@@ -1,4 +1,5 @@
--- The padding of section 5.1: that it makes whole blocks with as few zeros as can be, and how code lays it behind the pending bytes.
+-- The padding of section 5.1: that it makes whole blocks with as few zeros as can be, and how code lays it behind the
+-- pending bytes.
 --
 -- In order:
 --   zeroBytes-fit, zeroBytes-least      the equation of 5.1, for each algorithm

@@ -1,7 +1,7 @@
 -- Parts of a list.
 --
--- In order: part-tail (the part from a place to the end, as it is lent), part-front (a part of a list's front), take-min (as
--- many as there are).
+-- In order: part-tail (the part from a place to the end, as it is lent), part-front (a part of a list's front),
+-- take-min (as many as there are).
 -- Assumes nothing.
 use mathlib.Core.Path.{_≡_, ap}
 use mathlib.Core.List.{List, [], _∷_}

@@ -1,4 +1,5 @@
--- `slices::same` meets its contract. The invariant: what was seen so far, with what is left to compare, is the whole comparison. Assumes nothing.
+-- `slices::same` meets its contract. The invariant: what was seen so far, with what is left to compare, is the whole
+-- comparison. Assumes nothing.
 use mathlib.Core.Path.{_≡_, refl, sym, _∙_}
 use Prim.Native.Nat.{_-_, _≤_}
 use denote.Ref.{now}

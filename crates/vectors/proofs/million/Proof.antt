@@ -1,4 +1,5 @@
--- `vectors::million` meets its contract, by the law of `replicate`: computing the length would take too much. Assumes nothing.
+-- `vectors::million` meets its contract, by the law of `replicate`: computing the length would take too much. Assumes
+-- nothing.
 use mathlib.Core.Path.{sym}
 use lib.ListN.{length-replicate}
 use Rattle.vectors.proofs.million.Statement.{statement}

@@ -1,6 +1,7 @@
 -- A rule over a table or over all bytes, proved by one test that is computed.
 --
--- In order: every-at (each entry of a list), below-at (each number below a bound), same-below (two functions agree below a bound).
+-- In order: every-at (each entry of a list), below-at (each number below a bound), same-below (two functions agree
+-- below a bound).
 -- Assumes nothing.
 use mathlib.Core.Path.{_≡_, _∙_, subst, sym}
 use mathlib.Core.Bool.{Bool, true, false, _&&_}

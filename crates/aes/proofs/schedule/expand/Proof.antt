@@ -1,4 +1,5 @@
--- `aes::schedule::expand` meets its contract. The invariant: the first i words are those of whatever key the first eight are of.
+-- `aes::schedule::expand` meets its contract. The invariant: the first i words are those of whatever key the first
+-- eight are of.
 -- Assumes nothing.
 use mathlib.Core.Path.{_≡_, ap}
 use mathlib.Core.List.{List}

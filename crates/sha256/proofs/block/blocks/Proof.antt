@@ -1,4 +1,5 @@
--- `sha256::block::blocks` meets its contract. The invariant: hashing what is left gives what the whole gives. Assumes nothing.
+-- `sha256::block::blocks` meets its contract. The invariant: hashing what is left gives what the whole gives. Assumes
+-- nothing.
 use mathlib.Core.Path.{_≡_, refl, sym, _∙_}
 use Prim.Native.Nat.{_-_, _≤_}
 use native.Mathlib.Omega.{arith}

@@ -1,5 +1,5 @@
--- `vectors_keys::credentials::limits` meets its contract, by the law of `replicate`: computing the length would take too
--- much. Assumes nothing.
+-- `vectors_keys::credentials::limits` meets its contract, by the law of `replicate`: computing the length would take
+-- too much. Assumes nothing.
 use mathlib.Core.Path.{sym}
 use lib.ListN.{length-replicate}
 use borrow.Author.Needs.{needs}

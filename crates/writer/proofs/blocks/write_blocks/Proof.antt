@@ -1,5 +1,5 @@
--- `writer::blocks::write_blocks` meets its contract. The invariant: the blocks before `at` are written, and those behind it are the
--- blocks of the payload from `done` on, chained to `prev`. Assumes nothing.
+-- `writer::blocks::write_blocks` meets its contract. The invariant: the blocks before `at` are written, and those
+-- behind it are the blocks of the payload from `done` on, chained to `prev`. Assumes nothing.
 use mathlib.Core.Path.{_≡_, refl, sym, ap, _∙_}
 use mathlib.Core.List.{List, _++_}
 use Prim.Native.Nat.{ℕ, _+_, _-_, _≤_}
