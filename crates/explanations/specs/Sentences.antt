@@ -2,7 +2,7 @@
 --
 --   sentence        the text of each refusal
 --   held            how the struct `Sentence` stands for a text: zeros behind it
--- Not here: the refusals' numbers (crate refusals, Numbers); that every text has room (proofs, Laws).
+-- Not here: the refusals' numbers (crate refusals, Numbers); that every text has room (proofs, Theorem).
 -- Assumes nothing.
 use mathlib.Core.List.{List, [], _∷_, _++_}
 use Prim.Native.Nat.{ℕ}
