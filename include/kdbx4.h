@@ -92,7 +92,8 @@ typedef struct {
 /* 1 to 11. */
 uint8_t kdbx4_header(const uint8_t *file, size_t n, kdbx4_header_figures *figures);
 
-/* The text of the header listing: of a refused header too, so that only 17 is answered. */
+/* The text of the header listing: of a refused header too, so that only 17 is answered. A file over 65,536 bytes, the limit
+ * of a PC program's input, lists as R01. */
 uint8_t kdbx4_list(const uint8_t *file, size_t n, uint8_t *out, size_t room, size_t *count);
 
 /* ---- Dictionaries ---- */
