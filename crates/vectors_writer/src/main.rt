@@ -5,8 +5,7 @@
 // is refused, of an output that was EE; `file`, with a file's bytes, where the form begins with `file-`. The form says
 // what the case is. Standard input has a line for each: `FORM minor cipher master-seed nonce KDF-seed rounds custom T
 // payload room`. A payload that is a number has so many bytes by rule (vectors::pattern). The room is what is lent.
-// tools/vectors_writer.py writes stdin and stdout, by a writer of its own; tools/interop_writer.py has this program
-// write vaults for other programs to open.
+// tools/vectors_writer.py writes stdin and stdout, by a writer of its own.
 ghost use mathlib.Core.Path.{_≡_};
 ghost use lib.ListN.{length};
 use libc::STDIN_FILENO;

@@ -1,0 +1,142 @@
+"""The library of this repository for tests/interop, asked through tests/driver."""
+import dataclasses
+import json
+import pathlib
+import subprocess
+
+DRIVER = pathlib.Path(__file__).resolve().parent.parent / "driver"
+BEHIND_HEADER = 64  # the header's hash and tag
+BLOCK_HEAD = 36  # a block's tag and size
+
+
+class Refused(Exception):
+    """A number other than 0."""
+
+    def __init__(self, operation, number):
+        super().__init__(f"{operation}: refused with {number}")
+        self.number = number
+
+
+class Driver:
+    def __init__(self):
+        self.process = subprocess.Popen([DRIVER], stdin=subprocess.PIPE, stdout=subprocess.PIPE, text=True)
+
+    def ask(self, operation, **fields):
+        """The answer to one operation: bytes are given as bytes, and answered as hexadecimal digits."""
+        asked = {name: value.hex() if isinstance(value, bytes) else value for name, value in fields.items()}
+        self.process.stdin.write(json.dumps({"op": operation, **asked}) + "\n")
+        self.process.stdin.flush()
+        answer = json.loads(self.process.stdout.readline())
+        assert "error" not in answer and "touched" not in answer, f"{operation}: {answer}"
+        if answer["no"] != 0:
+            raise Refused(operation, answer["no"])
+        return answer
+
+    def close(self):
+        self.process.stdin.close()
+        assert self.process.wait() == 0, "the driver did not end well"
+
+
+def by_aes_kdf(driver, composite, kdf):
+    """In helpings of unequal size, the last of which asks for more than is left."""
+    rounds = kdf["R"]
+    answer = driver.ask("rounds", composite=composite, S=kdf["S"], R=rounds, helpings=[1, rounds // 2, rounds])
+    due = [min(1, rounds), min(1 + rounds // 2, rounds), rounds]
+    assert [done for done, _ in answer["helpings"]] == due, "helpings of other rounds"
+    return bytes.fromhex(answer["T"])
+
+
+# The KDFs that the library has. A vault with another one is skipped.
+TRANSFORMS = {"aeskdf": by_aes_kdf}
+
+
+def transformed(driver, credentials, kdf):
+    """The composite key of credentials, and T under a KDF as the driver describes it."""
+    parts = {}
+    if credentials.password is not None:
+        parts["password"] = credentials.password.encode()
+    if credentials.key_file is not None:
+        parts["keyfile"] = credentials.key_file.read_bytes()
+    composite = bytes.fromhex(driver.ask("composite", **parts)["key"])
+    return composite, TRANSFORMS[kdf["kind"]](driver, composite, kdf)
+
+
+@dataclasses.dataclass
+class Payload:
+    """What a payload has in it; `whole` is all of it."""
+
+    whole: bytes
+    algorithm: int
+    key: bytes
+    attachments: list
+    document: bytes
+
+
+@dataclasses.dataclass
+class Opened:
+    """A file as it is read here."""
+
+    minor: int
+    cipher: str
+    kdf: dict
+    custom: bytes
+    composite: bytes
+    t: bytes
+    blocks: list
+    payload: Payload
+
+
+def block_sizes(file, header_length):
+    """The sizes of the blocks in a file, the closing one too."""
+    sizes, at = [], header_length + BEHIND_HEADER
+    while not sizes or sizes[-1]:
+        sizes.append(int.from_bytes(file[at + BLOCK_HEAD - 4 : at + BLOCK_HEAD], "little"))
+        at += BLOCK_HEAD + sizes[-1]
+    return sizes
+
+
+def by_steps(driver, file, t, sizes):
+    """The payload as the steps hand it over: one for each block, and one more, which has to be refused with 19."""
+    lents = [size + 15 for size in sizes] + [0]
+    *steps, behind = driver.ask("steps", data=file, T=t, lents=lents)["steps"]
+    numbers = [step["no"] for step in steps]
+    assert numbers == [0] * len(sizes) and behind["no"] == 19, f"steps: {numbers}, {behind['no']}"
+    return b"".join(bytes.fromhex(step["bytes"]) for step in steps)
+
+
+def parsed(driver, whole):
+    """The parts of a payload."""
+    inner = driver.ask("inner", data=whole)
+    start, length = inner["key_span"]
+    attachments = []
+    for index, (at, size, flags) in enumerate(inner["attachments"]):
+        one = driver.ask("attachment", data=whole, index=index)
+        content = whole[at : at + size]
+        asked = one["flags"], one["at"], one["length"], one["content"]
+        assert asked == (flags, at, size, content.hex()), f"attachment {index} is another by its index"
+        attachments.append(content)
+    key, document = whole[start : start + length], whole[inner["doc_start"] :]
+    return Payload(whole, inner["alg"], key, attachments, document)
+
+
+def opened(driver, file, credentials):
+    """A file opened whole and block by block, which have to agree. Refused where the header or the opening is."""
+    header = driver.ask("header", data=file)
+    composite, t = transformed(driver, credentials, header["kdf"])
+    whole = bytes.fromhex(driver.ask("open", data=file, T=t)["payload"])
+    sizes = block_sizes(file, header["length"])
+    assert by_steps(driver, file, t, sizes) == whole, "block by block gives another payload"
+    start, length = header["custom_span"] or (0, 0)
+    custom = file[start : start + length]
+    figures = header["minor"], header["cipher"], header["kdf"], custom
+    return Opened(*figures, composite, t, sizes, parsed(driver, whole))
+
+
+def written(driver, form, t, payload):
+    """The file of a payload: `form` has minor, cipher, seed, nonce, kdf and custom."""
+    return bytes.fromhex(driver.ask("write", **form, T=t, data=payload)["file"])
+
+
+def changed(file):
+    """A file with one byte of its last data block changed: the closing block has the last 36."""
+    return file[:-37] + bytes([file[-37] ^ 1]) + file[-36:]

@@ -1,0 +1,106 @@
+"""The other programs of tests/interop: KeePassXC by keepassxc-cli, and File::KDBX by file_kdbx.pl.
+
+KeePassXC 2.7.4's command line makes new vaults of KDBX 3.1 alone, but it keeps a vault's cipher, KDF, rounds, custom
+dictionary and lack of compression when it saves it: what it changes is written by it. It writes 4.1 where the document
+needs that, as an entry that was moved does, and else 4.0. File::KDBX 0.906 refuses any dictionary with an empty value.
+"""
+import dataclasses
+import json
+import os
+import pathlib
+import shutil
+import subprocess
+import sys
+
+PERL = pathlib.Path(__file__).resolve().parent / "file_kdbx.pl"
+ENVIRONMENT = os.environ | {"QT_QPA_PLATFORM": "offscreen", "LC_ALL": "C.UTF-8"}
+
+
+class Failed(Exception):
+    """What another program says where it does not do what it is asked."""
+
+
+@dataclasses.dataclass(frozen=True)
+class Credentials:
+    name: str
+    password: str | None
+    key_file: pathlib.Path | None
+
+
+def install():
+    """From Debian's packages, with apt-get (so as root), what is missing."""
+    missing = [] if shutil.which("keepassxc-cli") else ["keepassxc"]
+    if subprocess.run(["perl", "-MFile::KDBX", "-e1"], capture_output=True).returncode != 0:
+        missing.append("libfile-kdbx-perl")
+    if missing:
+        subprocess.run(["apt-get", "update", "-q"], check=True, stdout=sys.stderr)
+        subprocess.run(["apt-get", "install", "-y", "-q", *missing], check=True, stdout=sys.stderr)
+
+
+def versions():
+    def said(*words):
+        return subprocess.run(words, capture_output=True, text=True, check=True).stdout.strip()
+
+    perl = said("perl", "-MFile::KDBX", "-e", "print File::KDBX->VERSION")
+    return f"KeePassXC {said('keepassxc-cli', '--version')}, File::KDBX {perl}"
+
+
+def run(words, given):
+    ended = subprocess.run(words, input=given, capture_output=True, env=ENVIRONMENT)
+    if ended.returncode != 0:
+        # Prompts stand there too, in lines of their own.
+        said = ended.stderr.decode().strip().splitlines() or ["no message"]
+        raise Failed(f"{words[0]} {words[1]}: {said[-1]}")
+    return ended.stdout
+
+
+def lines(*texts):
+    return "".join(f"{text}\n" for text in texts if text is not None).encode()
+
+
+def keepassxc(command, path, credentials, *arguments, options=(), answers=()):
+    """What a command of keepassxc-cli on a vault writes; `answers` are those to its prompts behind the password's."""
+    words = ["keepassxc-cli", command, *options]
+    words += ["--no-password"] if credentials.password is None else []
+    words += ["--key-file", credentials.key_file] if credentials.key_file is not None else []
+    return run([*words, path, *arguments], lines(credentials.password, *answers))
+
+
+def create(path, password):
+    """A new vault of KeePassXC."""
+    run(["keepassxc-cli", "db-create", "--set-password", path], lines(password, password))
+
+
+def set_credentials(path, before, after):
+    """Have KeePassXC give a vault with a password other credentials."""
+    if after.password is None:
+        options, answers = ["--unset-password"], ()
+    else:
+        # It asks whether an empty one is meant, and for any other once more.
+        options, answers = ["--set-password"], (after.password, after.password or "y")
+    options += ["--set-key-file", after.key_file] if after.key_file is not None else []
+    keepassxc("db-edit", path, before, options=options, answers=answers)
+
+
+def exported(path, credentials):
+    """The document that KeePassXC exports of a vault."""
+    return keepassxc("export", path, credentials, options=["--format", "xml"])
+
+
+def attachment(path, credentials, entry, name):
+    """An attachment's bytes, as KeePassXC exports them: to a file, since --stdout takes them for text."""
+    copy = path.with_suffix(".attachment")
+    copy.unlink(missing_ok=True)
+    keepassxc("attachment-export", path, credentials, entry, name, copy)
+    return copy.read_bytes()
+
+
+def hexadecimal(value):
+    return value.hex() if isinstance(value, bytes) else value
+
+
+def perl(mode, path, credentials, **asked):
+    """What file_kdbx.pl answers."""
+    password = None if credentials.password is None else credentials.password.encode()
+    asked |= {"path": str(path), "password": password, "key_file": credentials.key_file and str(credentials.key_file)}
+    return json.loads(run(["perl", PERL, mode], json.dumps(asked, default=hexadecimal).encode()))
