@@ -1,28 +1,13 @@
 """What the scripts of tests/replay's cases share: the list of cases, and the parts of files."""
-import hashlib
 import json
-import sys
 
+from digests import must
 from vectors_writer import AES, CHACHA20, le
 
 LARGE = 2**64 - 1
 SEED, NONCE, KDF_SEED, T = b"\x11" * 32, b"\x22" * 16, b"\x33" * 32, bytes(range(32))
 NAMES = {AES: "aes", CHACHA20: "chacha"}
 NONCES = {AES: NONCE, CHACHA20: NONCE[:12]}
-
-
-def must(condition, what):
-    """For what this script expects of itself and of the vaults."""
-    if not condition:
-        sys.exit(f"not as expected: {what}")
-
-
-def sha256(*parts):
-    return hashlib.sha256(b"".join(parts)).digest()
-
-
-def sha512(*parts):
-    return hashlib.sha512(b"".join(parts)).digest()
 
 
 def shown(value):

@@ -3,7 +3,8 @@
 The numbers are told by hand, from document 01; its worked listing stands here as it has it. What the headers of other
 programs' vaults say is the manifest's, or read from the fields.
 """
-from case_list import KDF_SEED, NONCE, SEED, field, must
+from case_list import KDF_SEED, NONCE, SEED, field
+from digests import must
 from vectors_writer import AES, AES_KDF, CHACHA20, CUSTOM, DICTIONARIES, ITEM, dictionary, header_of, item, le
 
 

@@ -2,7 +2,8 @@
 
 The numbers are told by hand, from document 01. Attachments and documents of other programs' vaults are the manifest's.
 """
-from case_list import LARGE, field, must, sha256
+from case_list import LARGE, field
+from digests import must, sha256
 from payloads import payload_of
 from vectors_writer import le
 

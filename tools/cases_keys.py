@@ -6,7 +6,8 @@ example, or the package cryptography's, which is OpenSSL. Composite and transfor
 import hashlib
 import hmac
 
-from case_list import LARGE, must, sha256, sha512
+from case_list import LARGE
+from digests import must, sha256, sha512
 from cryptography.hazmat.primitives.ciphers import Cipher, algorithms, modes
 from messages import pattern
 from vectors_writer import le

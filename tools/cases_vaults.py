@@ -6,7 +6,8 @@ writer that vectors_writer.py has of its own.
 """
 import hmac
 
-from case_list import KDF_SEED, LARGE, NAMES, NONCE, NONCES, SEED, T, must, sha256, sha512
+from case_list import KDF_SEED, LARGE, NAMES, NONCE, NONCES, SEED, T
+from digests import must, sha256, sha512
 from cryptography.hazmat.primitives.ciphers import Cipher, algorithms, modes
 from messages import pattern
 from payloads import payload_of

@@ -13,7 +13,8 @@ import subprocess
 
 from cryptography.hazmat.primitives.ciphers import Cipher, algorithms, modes
 from header_model import AES
-from vectors_vault import Keys, blocks, field, front, header, kdf, number, sha256, text_of
+from digests import sha256
+from vectors_vault import Keys, blocks, field, front, header, kdf, number, text_of
 
 PASSWORD = "open the bench"
 ROUNDS = 100_000

@@ -8,20 +8,16 @@ its payload, document and attachments are compared with the manifest's lengths, 
 that are damaged, and the parts of payloads to be written, are made here. Their numbers come from a reader and a writer
 of its own, told here from document 01's order, and each is compared with the number that its name says.
 """
-import hashlib
 import json
 import pathlib
 import sys
 
+from digests import sha256
 from payloads import payload_of
 from vaults import text_field, vaults
 
 LIMIT = 4_194_304
 ROOM = 64
-
-
-def sha256(*parts):
-    return hashlib.sha256(b"".join(parts)).digest()
 
 
 class Refused(Exception):

@@ -8,25 +8,17 @@ computed by Python 3's hashlib, which is OpenSSL. The composite keys are compare
 tag key of 2^64-1 is tried on the header's tag, which the program that wrote the vault put there. The other
 credentials are those of crates/vectors_keys/src, told anew here.
 """
-import hashlib
 import hmac
 import pathlib
 import sys
 
+from digests import sha256, sha512
 from messages import pattern
 from vaults import text_field, vaults
 
 LIMIT = 4_194_304
 TOO_LONG, WRONG_CREDENTIAL = 1, 18
 NUMBERS = {"0": 0, "1": 1, "2^32": 2**32, "2^64-1": 2**64 - 1}
-
-
-def sha256(*parts):
-    return hashlib.sha256(b"".join(parts)).digest()
-
-
-def sha512(*parts):
-    return hashlib.sha512(b"".join(parts)).digest()
 
 
 def composed(password, key_file, pre_hash):

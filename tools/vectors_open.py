@@ -15,7 +15,8 @@ import sys
 from header_model import CHACHA20, SIGNATURES, Refused, int32, need, read_header, sound_items
 from sample import PASSWORD, transformed
 from vaults import text_field
-from vectors_vault import AES, Keys, blocks, flipped, front, header, must, open_whole, sha256, text_of
+from digests import must, sha256
+from vectors_vault import AES, Keys, blocks, flipped, front, header, open_whole, text_of
 
 ROOT = pathlib.Path(__file__).parent.parent
 BENCH = ROOT / "crates" / "open" / "data" / "bench.kdbx"

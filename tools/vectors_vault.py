@@ -8,13 +8,13 @@ and hmac and the ciphers of the package cryptography, which is OpenSSL. What it 
 manifest's block sizes, payload lengths and hashes; the numbers of made and damaged vaults are told beside each, by
 hand, and compared with what the openers say.
 """
-import hashlib
 import hmac
 import json
 import pathlib
 import sys
 
 from cryptography.hazmat.primitives.ciphers import Cipher, algorithms, modes
+from digests import must, sha256, sha512
 from header_model import (
     AES, AES_KDF, ARGON2D, CHACHA20, END, SIGNATURES, TWOFISH, Refused, int32, need, number, read_header
 )
@@ -25,20 +25,6 @@ TABLE_LIMIT = 1_000_000
 # The table has no room for all vaults: of two of KeePass 2 with Argon2, whose headers are refused, one is left out.
 LEFT_OUT = "kp2-v40-chacha-argon2id-pwkf"
 OUTPUT = 65_536
-
-
-def must(condition, what):
-    """For what this script expects of itself and of the vaults."""
-    if not condition:
-        sys.exit(f"not as expected: {what}")
-
-
-def sha256(*parts):
-    return hashlib.sha256(b"".join(parts)).digest()
-
-
-def sha512(*parts):
-    return hashlib.sha512(b"".join(parts)).digest()
 
 
 def tag_of(base, i, *parts):

@@ -6,13 +6,13 @@ and hmac, AES and ChaCha20 by the Python package cryptography, which is OpenSSL.
 in document 01's order, and each is compared with the number that its case is to give. The lengths that document 01
 gives are compared too.
 """
-import hashlib
 import hmac
 import pathlib
 import sys
 
 from cryptography.hazmat.primitives import padding
 from cryptography.hazmat.primitives.ciphers import Cipher, algorithms, modes
+from digests import sha256, sha512
 from messages import pattern
 from vaults import text_field
 
@@ -33,14 +33,6 @@ class Refused(Exception):
 
 def le(n, size):
     return n.to_bytes(size, "little")
-
-
-def sha256(*parts):
-    return hashlib.sha256(b"".join(parts)).digest()
-
-
-def sha512(*parts):
-    return hashlib.sha512(b"".join(parts)).digest()
 
 
 def item(type_, name, value, name_size=None, value_size=None):
