@@ -4,7 +4,9 @@
  * no byte of an output, a count or figures. A success changes the bytes due at the front of an output, and none behind them.
  *
  * A state (of a hash, of the key transformation, of an opening) is an array that the caller lends. It is bytes to be
- * kept and handed back, and may be copied. Every value of the bytes is answered: one that no call made is refused.
+ * kept and handed back, and may be copied. Every value of the bytes is answered. An opening whose mark, cipher or numbers no
+ * call leaves, zeros too, counts as closed: every step is 19. A key transformation whose mark or counts no call leaves counts
+ * as refused: T is 19. Keys and halves are taken as they stand, and of a hash every value is a state.
  *
  * A slice is a pointer that is not NULL, and a length, 0 too. Outputs, states and inputs of one call do not overlap.
  * No function keeps a pointer, allocates memory or has memory of its own.
