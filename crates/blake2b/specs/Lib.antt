@@ -1,0 +1,3 @@
+pub mod Rfc7693
+pub mod Working
+pub mod State
