@@ -1,0 +1,3 @@
+pub mod Rfc9106
+pub mod Order
+pub mod State
