@@ -1,0 +1,78 @@
+-- `argon2_fill::block::put_over` meets its contract. The invariant: the first i words are put. Assumes nothing.
+use mathlib.Core.Path.{_≡_, sym, ap, _∙_}
+use mathlib.Core.List.{List}
+use Prim.Native.Nat.{ℕ, _-_, _≤_, _<_}
+use native.Mathlib.Omega.{arith}
+use denote.Ref.{now}
+use lib.Bits.{bitXor}
+use lib.ListN.{length, take, getD, length-set}
+use Rattle.words.specs.Xor.{xors}
+use Rattle.slices.specs.Over.{over}
+use Rattle.slices.proofs.Laws.Over.{over-nil}
+use Rattle.argon2_fill.proofs.Laws.Blocks.{put-more, put-all, getD-over-next, length-added, added-word}
+use borrow.Author.Needs.{needs}
+use Rattle.argon2_fill.proofs.block.put_over.Statement.{statement}
+use Rattle.argon2_fill.proofs.block.put_over.Tie as tie
+
+abbrev Inv-loop : tie.InvT-loop
+Inv-loop out₀ z r i₀ out i =
+    (i ≤ 128) × (length out ≡ length out₀) × (out ≡ over (take i (xors (xors z r) (take 128 out₀))) out₀)
+
+abbrev μ-loop : tie.MeasureT-loop
+μ-loop out₀ z r i₀ out i = 128 - i
+
+loop-holds : tie.Need-loop-holds Inv-loop μ-loop
+loop-holds c = (search needs, search needs, sym (over-nil (now (c .args .out))))
+
+loop-again : tie.Need-loop-again Inv-loop μ-loop
+loop-again c =
+    let at-loop = c .before .before .before .before in
+    let l = at-loop .loop in
+    let a = at-loop .before .args in
+    let h = at-loop .before .pre in
+    let z = now (a .z) in
+    let r = now (a .r) in
+    let d = now (a .out) in
+    let w : List ℕ = xors (xors z r) (take 128 d) in
+    let n : length w ≡ 128 = length-added z r d (h .1 .0) (h .1 .1) (h .0) in
+    let k = h .0 in
+    let t : l .i < 128 = omega arith in
+    let o = getD-over-next w d (l .out) (l .i) (l .inv .2) (omega arith) (omega arith) in (
+      search needs,
+      simp length-set (l .inv .1),
+      put-more w d (l .out) (l .i) _ (l .inv .2) (omega arith) (omega arith)
+          (ap (bitXor (bitXor (getD z (l .i) 0) (getD r (l .i) 0))) o
+          ∙ added-word z r d (l .i) (h .1 .0) (h .1 .1) (h .0) t),
+    )
+
+returns : tie.Need-returns Inv-loop μ-loop
+returns c =
+    let at-loop = c .before in
+    let l = at-loop .loop in
+    let a = at-loop .before .args in
+    let h = at-loop .before .pre in
+    let d = now (a .out) in
+    let w : List ℕ = xors (xors (now (a .z)) (now (a .r))) (take 128 d) in
+    let n : length w ≡ 128 = length-added (now (a .z)) (now (a .r)) d (h .1 .0) (h .1 .1) (h .0) in
+    put-all w d (l .out) (l .i) (l .inv .2) (omega arith)
+
+pub put-over-spec : {M : Type 1} → statement M
+put-over-spec =
+    tie.close
+    (tie.spec
+    Inv-loop
+    μ-loop
+    loop-holds
+    (λ c. search needs)
+    (λ c. search needs)
+    (λ c. search needs)
+    (λ c. search needs)
+    (λ c. search needs)
+    (λ c. search needs)
+    (λ c. search needs)
+    (λ c. search needs)
+    (λ c. search needs)
+    (λ c. search needs)
+    loop-again
+    (λ c. search needs)
+    returns)
