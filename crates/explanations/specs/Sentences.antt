@@ -12,7 +12,7 @@ use Prim.Native.String as string
 use lib.ListN.{length, replicate}
 use Rattle.slices.specs.Over.{laid}
 use Rattle.refusals.specs.declared.Refusal.{Refusal}
-use Rattle.refusals.specs.declared.Refusal.the-variants.{TooLong, CutShort, WrongSignature, WrongVersion, WrongSize, Repeated, UnknownField, Absent, Unlisted, BrokenDictionary, TooManyRounds, HeaderHash, HeaderTag, BlockTag, TrailingBytes, WrongPadding, NoRoom, WrongCredential, OutOfSequence}
+use Rattle.refusals.specs.declared.Refusal.the-variants.{TooLong, CutShort, WrongSignature, WrongVersion, WrongSize, Repeated, UnknownField, Absent, Unlisted, BrokenDictionary, TooManyRounds, HeaderHash, HeaderTag, BlockTag, TrailingBytes, WrongPadding, NoRoom, WrongCredential, OutOfSequence, FigureOutside}
 use Rattle.explanations.specs.declared.Sentence.{Sentence}
 
 -- the bytes of a text of ASCII
@@ -43,7 +43,7 @@ sentence Absent =
     ++ ascii "number."
 sentence Unlisted =
     ascii "The vault uses a cipher, a compression or a key derivation that is not supported. In a desktop "
-    ++ ascii "password manager choose AES-256 or ChaCha20, AES-KDF and no compression, and save it."
+    ++ ascii "password manager choose AES-256 or ChaCha20, AES-KDF or Argon2, no compression, and save it."
 sentence BrokenDictionary =
     ascii "The header's settings are damaged or incomplete. Take another copy, or save the vault again in a "
     ++ ascii "desktop password manager."
@@ -63,13 +63,17 @@ sentence WrongPadding =
     ascii "The contents do not end as they must, so the program that wrote them has a fault. Save the vault "
     ++ ascii "again in a desktop password manager."
 sentence NoRoom =
-    ascii "There is too little room for the result. Tell whoever maintains this program."
+    ascii "There is too little memory for this vault's key, or too little room for the result. Start the "
+    ++ ascii "program with a larger stack (docs/REFUSALS.md), or tell whoever maintains it."
 sentence WrongCredential =
     ascii "No password and no key file was given, or a pre-hash that is not 32 bytes or stands beside "
     ++ ascii "another. Give the password, the key file or both."
 sentence OutOfSequence =
     ascii "A step came after the end, or a key was asked for too early. Start again; if it happens again, "
     ++ ascii "tell whoever maintains this program."
+sentence FigureOutside =
+    ascii "The vault's Argon2 settings are outside what this program takes: salt 8 to 64 bytes, 1 to 64 passes, "
+    ++ ascii "8 KiB a lane to 64 MiB, 1 to 16 lanes. Change them in a desktop password manager."
 
 unfoldable pub held : List ℕ → Sentence
 held w = record { text = laid w (replicate 192 0); length = length w }

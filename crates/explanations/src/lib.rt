@@ -54,7 +54,7 @@ pub fn explain(why: Refusal) -> Sentence
             b"A part that is needed is not there. Take another copy of the vault; for an attachment, check its number.",
         ),
         Refusal::Unlisted => return held(
-            b"The vault uses a cipher, a compression or a key derivation that is not supported. In a desktop password manager choose AES-256 or ChaCha20, AES-KDF and no compression, and save it.",
+            b"The vault uses a cipher, a compression or a key derivation that is not supported. In a desktop password manager choose AES-256 or ChaCha20, AES-KDF or Argon2, no compression, and save it.",
         ),
         Refusal::BrokenDictionary => return held(
             b"The header's settings are damaged or incomplete. Take another copy, or save the vault again in a desktop password manager.",
@@ -78,13 +78,16 @@ pub fn explain(why: Refusal) -> Sentence
             b"The contents do not end as they must, so the program that wrote them has a fault. Save the vault again in a desktop password manager.",
         ),
         Refusal::NoRoom => return held(
-            b"There is too little room for the result. Tell whoever maintains this program.",
+            b"There is too little memory for this vault's key, or too little room for the result. Start the program with a larger stack (docs/REFUSALS.md), or tell whoever maintains it.",
         ),
         Refusal::WrongCredential => return held(
             b"No password and no key file was given, or a pre-hash that is not 32 bytes or stands beside another. Give the password, the key file or both.",
         ),
         Refusal::OutOfSequence => return held(
             b"A step came after the end, or a key was asked for too early. Start again; if it happens again, tell whoever maintains this program.",
+        ),
+        Refusal::FigureOutside => return held(
+            b"The vault's Argon2 settings are outside what this program takes: salt 8 to 64 bytes, 1 to 64 passes, 8 KiB a lane to 64 MiB, 1 to 16 lanes. Change them in a desktop password manager.",
         ),
     }
 }

@@ -9,34 +9,15 @@
 use mathlib.Core.Path.{_≡_, refl, sym, ap, _∙_}
 use mathlib.Core.List.{List, _++_}
 use Prim.Native.Nat.{ℕ}
+use native.Mathlib.Omega.{arith}
 use lib.ListN.{length, replicate, length-append, length-replicate}
 use borrow.Author.Tests.{ne-eqb}
 use Rattle.slices.specs.Over.{putAt}
 use Rattle.slices.proofs.Laws.Over.{over-whole}
 use Rattle.slices.proofs.Laws.Put.{laid-first, laid-more}
+use Rattle.refusals.proofs.Laws.Numbers.{ofRefusal-positive}
 use Rattle.refusals.specs.Numbers.{ofRefusal, ofOutcome, ofWritten}
 use Rattle.refusals.specs.declared.Refusal.{Refusal}
-use Rattle.refusals.specs.declared.Refusal.the-variants.{
-  TooLong,
-  CutShort,
-  WrongSignature,
-  WrongVersion,
-  WrongSize,
-  Repeated,
-  UnknownField,
-  Absent,
-  Unlisted,
-  BrokenDictionary,
-  TooManyRounds,
-  HeaderHash,
-  HeaderTag,
-  BlockTag,
-  TrailingBytes,
-  WrongPadding,
-  NoRoom,
-  WrongCredential,
-  OutOfSequence,
-}
 use Rattle.refusals.specs.declared.Outcome.{Outcome}
 use Rattle.refusals.specs.declared.Outcome.the-variants.{Accepted, Refused}
 use Rattle.refusals.specs.declared.Written.{Written}
@@ -61,25 +42,7 @@ answer-not-written had e f a = rw (sym e ∙ a) (f, refl)
 
 -- no refusal has the number 0
 pub figuresOr-refused : (r : Refusal) (values had : List ℕ) → had ≡ figuresOr (ofRefusal r) values had
-figuresOr-refused TooLong values had = refl
-figuresOr-refused CutShort values had = refl
-figuresOr-refused WrongSignature values had = refl
-figuresOr-refused WrongVersion values had = refl
-figuresOr-refused WrongSize values had = refl
-figuresOr-refused Repeated values had = refl
-figuresOr-refused UnknownField values had = refl
-figuresOr-refused Absent values had = refl
-figuresOr-refused Unlisted values had = refl
-figuresOr-refused BrokenDictionary values had = refl
-figuresOr-refused TooManyRounds values had = refl
-figuresOr-refused HeaderHash values had = refl
-figuresOr-refused HeaderTag values had = refl
-figuresOr-refused BlockTag values had = refl
-figuresOr-refused TrailingBytes values had = refl
-figuresOr-refused WrongPadding values had = refl
-figuresOr-refused NoRoom values had = refl
-figuresOr-refused WrongCredential values had = refl
-figuresOr-refused OutOfSequence values had = refl
+figuresOr-refused r values had = rw (ne-eqb (ofRefusal r) 0 (λ e. omega (arith, ofRefusal-positive r)))
 
 pub answer-figures : {n : ℕ} {x y : List ℕ} (had : List ℕ) → n ≡ 0 → x ≡ y → (0 ≡ n) × (x ≡ figuresOr n y had)
 answer-figures had e f = rw e (refl, f)

@@ -1,8 +1,11 @@
 -- Document 01, "Numbers of the terminal": the most of each thing, in bytes but for the rounds. A limit is inclusive.
---
+-- Document 02, Item 6: "S of 8 to 64 bytes, I 1 to 64, M 8,192 to 67,108,864, P 1 to 16, M at least 8,192 times P"
+--                                                                                                      argon2Fits
 -- Not here: the laws that proofs lean on (proofs, Laws.Limits).
 -- Assumes nothing.
-use Prim.Native.Nat.{ℕ}
+use mathlib.Core.Bool.{Bool, _&&_}
+use Prim.Native.Nat.{ℕ, _*_}
+use lib.Dec.{leb}
 
 -- a file, read or written
 unfoldable pub fileLimit : ℕ
@@ -35,3 +38,14 @@ writtenBlock = 16_384
 -- a PC program's input
 unfoldable pub programLimit : ℕ
 programLimit = 65_536
+
+-- a number from the least to the most
+abbrev pub within : ℕ → ℕ → ℕ → Bool
+within n least most = leb least n && leb n most
+
+-- Argon2's figures: salt (in bytes), passes, memory (in bytes), lanes; and as much memory as the lanes need
+unfoldable pub argon2Fits : ℕ → ℕ → ℕ → ℕ → Bool
+argon2Fits salt passes memory lanes =
+    within salt 8 64
+    && (within passes 1 64
+    && (within memory 8_192 67_108_864 && (within lanes 1 16 && leb (8_192 * lanes) memory)))

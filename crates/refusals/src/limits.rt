@@ -1,4 +1,5 @@
-// The most that the terminal takes of each thing (document 01, "Numbers of the terminal"). A limit is inclusive.
+// The most that the terminal takes of each thing (document 01, "Numbers of the terminal"), and the bounds of Argon2's
+// figures (document 02, Item 6). A limit is inclusive.
 ghost use mathlib.Core.Path.{_≡_};
 ghost use lib.Dec.{leb};
 ghost use Rattle.refusals.specs.Limits as limits;
@@ -19,6 +20,25 @@ pub const ROUNDS_LIMIT: u64 = 4_000_000;
 pub const WRITTEN_BLOCK: usize = 16_384;
 // A PC program's input, in bytes.
 pub const PROGRAM_LIMIT: usize = 65_536;
+
+// An Argon2 salt, in bytes.
+pub const SALT_LEAST: u64 = 8;
+
+pub const SALT_MOST: u64 = 64;
+// Argon2's passes.
+pub const PASSES_LEAST: u64 = 1;
+
+pub const PASSES_MOST: u64 = 64;
+// Argon2's memory, in bytes, and what each lane needs of it.
+pub const MEMORY_LEAST: u64 = 8_192;
+
+pub const MEMORY_MOST: u64 = 67_108_864;
+
+pub const LANE_MEMORY: u64 = 8_192;
+// Argon2's lanes.
+pub const LANES_LEAST: u64 = 1;
+
+pub const LANES_MOST: u64 = 16;
 
 // Whether a file, read or written may have so many bytes.
 pub fn file_fits(n: usize) -> bool
@@ -74,4 +94,34 @@ pub fn written_block() -> usize
     ensures { λ r. ⌜ r ≡ limits.writtenBlock ⌝ }
 {
     WRITTEN_BLOCK
+}
+
+// Whether a number is from the least to the most.
+fn is_within(n: u64, least: u64, most: u64) -> bool
+    ensures { λ r. ⌜ r ≡ limits.within n least most ⌝ }
+{
+    if n < least {
+        return false;
+    }
+    n <= most
+}
+
+// Whether the terminal runs Argon2 with such figures: the salt's bytes, the passes, the memory's bytes, the lanes.
+pub fn argon2_figures_fit(salt_len: usize, passes: u64, memory: u64, lanes: u32) -> bool
+    ensures { λ r. ⌜ r ≡ limits.argon2Fits «salt_len» passes memory lanes ⌝ }
+{
+    let p = lanes as u64;
+    if is_within(salt_len as u64, SALT_LEAST, SALT_MOST) {
+        if is_within(passes, PASSES_LEAST, PASSES_MOST) {
+            if is_within(memory, MEMORY_LEAST, MEMORY_MOST) {
+                if is_within(p, LANES_LEAST, LANES_MOST) {
+                    return LANE_MEMORY * p <= memory;
+                }
+                return false;
+            }
+            return false;
+        }
+        return false;
+    }
+    false
 }

@@ -5,11 +5,15 @@
 --   message-file, message-password, message-key-file, message-blocks
 --   file-size, payload-size, rounds-word
 --   block-pieces, block-positive, block-size, block-file
+--   Argon2Bounds, argon2Fits-bounds
 -- Assumes nothing.
 use mathlib.Core.Path.{_≡_, refl}
-use Prim.Native.Nat.{_+_, _%_, _^_, _≤_, _<_}
+use mathlib.Core.Bool.{true}
+use Prim.Native.Nat.{ℕ, _+_, _*_, _%_, _^_, _≤_, _<_}
 use native.Mathlib.Omega.{arith}
-use Rattle.refusals.specs.Limits.{fileLimit, payloadLimit, passwordLimit, keyFileLimit, messageLimit, roundsLimit, writtenBlock}
+use borrow.Author.Tests.{leb-true}
+use Rattle.words.proofs.Laws.Cases.{and-true}
+use Rattle.refusals.specs.Limits.{fileLimit, payloadLimit, passwordLimit, keyFileLimit, messageLimit, roundsLimit, writtenBlock, within, argon2Fits}
 
 -- a whole file, with a block's number and size before it, is a message
 pub message-file : fileLimit + 12 ≤ messageLimit
@@ -61,3 +65,38 @@ block-size = omega arith
 pub block-file : writtenBlock ≤ fileLimit
 unfolding writtenBlock fileLimit
 block-file = omega arith
+
+-- what Argon2's figures keep to, where they fit
+pub record Argon2Bounds (salt passes memory lanes : ℕ) : Type 0 where
+  pub salt-least : 8 ≤ salt
+  pub salt-most : salt ≤ 64
+  pub passes-least : 1 ≤ passes
+  pub passes-most : passes ≤ 64
+  pub memory-least : 8_192 * lanes ≤ memory
+  pub memory-most : memory ≤ 67_108_864
+  pub lanes-least : 1 ≤ lanes
+  pub lanes-most : lanes ≤ 16
+
+within-true : (n least most : ℕ) → within n least most ≡ true → (least ≤ n) × (n ≤ most)
+within-true n least most e =
+    let b = and-true _ _ e in
+    (leb-true least n (b .0), leb-true n most (b .1))
+
+pub argon2Fits-bounds : (salt passes memory lanes : ℕ) → argon2Fits salt passes memory lanes ≡ true
+    → Argon2Bounds salt passes memory lanes
+unfolding argon2Fits
+argon2Fits-bounds salt passes memory lanes e =
+    let s = and-true (within salt 8 64) _ e in
+    let i = and-true (within passes 1 64) _ (s .1) in
+    let m = and-true (within memory 8_192 67_108_864) _ (i .1) in
+    let p = and-true (within lanes 1 16) _ (m .1) in
+    record {
+      salt-least = within-true salt 8 64 (s .0) .0;
+      salt-most = within-true salt 8 64 (s .0) .1;
+      passes-least = within-true passes 1 64 (i .0) .0;
+      passes-most = within-true passes 1 64 (i .0) .1;
+      memory-least = leb-true (8_192 * lanes) memory (p .1);
+      memory-most = within-true memory 8_192 67_108_864 (m .0) .1;
+      lanes-least = within-true lanes 1 16 (p .0) .0;
+      lanes-most = within-true lanes 1 16 (p .0) .1;
+    }
