@@ -1,0 +1,2 @@
+pub mod Rfc9106
+pub mod Run
