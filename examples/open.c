@@ -5,8 +5,9 @@
  *     target/open VAULT PASSWORD
  *
  * A refusal prints its number (docs/REFUSALS.md) to standard error, and the status is 1. The transformation of the key
- * is the long part, so it runs in parts that leave time for a screen or a watchdog. A firmware would keep the file and
- * the payload where it has room for them: neither is more than KDBX4_FILE_LIMIT bytes.
+ * is the long part: AES-KDF runs in parts that leave time for a screen or a watchdog, Argon2 in one call. A firmware
+ * would keep the file and the payload where it has room for them: neither is more than KDBX4_FILE_LIMIT bytes. To
+ * Argon2 it lends the words that it can spare: 17 refuses a vault that needs more, and 64 MiB are enough for any.
  */
 #include <stdio.h>
 #include <stdlib.h>
@@ -17,6 +18,7 @@
 #define ROUNDS_AT_ONCE 100000
 
 static uint8_t file[KDBX4_FILE_LIMIT + 1], payload[KDBX4_FILE_LIMIT];
+static uint64_t argon2_words[KDBX4_ARGON2_WORDS(67108864, 1)];
 static struct {
     uint8_t composite[32], t[32], halves[32], kdf[KDBX4_AES_KDF_STATE], opener[KDBX4_OPENER_STATE];
 } secret;
@@ -38,15 +40,22 @@ static void check(const char *what, uint8_t number) {
     leave(1);
 }
 
-/* The transformed key T of a composite key and a header's figures. */
+/* T by AES-KDF, of a composite key and a header's figures. */
 static void transform(const kdbx4_header_figures *header) {
     uint32_t done = 0;
-    check("rounds", kdbx4_aes_kdf_start(secret.composite, file + header->kdf_seed.start, header->rounds, secret.kdf));
+    check("rounds", kdbx4_aes_kdf_start(secret.composite, file + header->salt.start, header->rounds, secret.kdf));
     while (done < header->rounds) {
         kdbx4_aes_kdf_advance(secret.kdf, ROUNDS_AT_ONCE, &done, secret.halves);
         fprintf(stderr, "%u of %llu rounds\n", done, (unsigned long long)header->rounds);
     }
     check("key", kdbx4_aes_kdf_finish(secret.kdf, secret.t));
+}
+
+/* T by Argon2, which leaves the words that it used as zeros. */
+static void transform_argon2(const kdbx4_header_figures *header) {
+    check("key", kdbx4_argon2(header->kdf, secret.composite, file + header->salt.start, header->salt.length,
+                              header->rounds, header->memory, header->lanes, argon2_words,
+                              sizeof argon2_words / sizeof *argon2_words, secret.t));
 }
 
 /* The payload, block by block: its length. A step is handed the whole file, and what is left of the room. */
@@ -74,7 +83,7 @@ int main(int words, char **word) {
     size_t p = strlen(word[2]);
     check("password", kdbx4_composite(password, p, 1, none, 0, 0, none, 0, 0, secret.composite));
     clear(word[2], p);
-    transform(&header);
+    header.kdf == KDBX4_AES_KDF ? transform(&header) : transform_argon2(&header);
 
     kdbx4_inner_figures inner;
     size_t length = open_blocks(n);

@@ -22,6 +22,9 @@
 #define KDBX4_MESSAGE_LIMIT 8388608
 #define KDBX4_ROUNDS_LIMIT 4000000
 
+/* The key derivation functions, as a header's figures and the functions below number them. */
+enum { KDBX4_AES_KDF = 0, KDBX4_ARGON2D = 1, KDBX4_ARGON2ID = 2 };
+
 /* A stretch of a file, a payload or a dictionary. */
 typedef struct {
     uint64_t start, length;
@@ -72,6 +75,16 @@ uint8_t kdbx4_aes_kdf_start(const uint8_t composite[32], const uint8_t seed[32],
 void kdbx4_aes_kdf_advance(uint8_t state[KDBX4_AES_KDF_STATE], uint64_t n, uint32_t *done, uint8_t halves[32]);
 uint8_t kdbx4_aes_kdf_finish(const uint8_t state[KDBX4_AES_KDF_STATE], uint8_t out[32]);
 
+/* Argon2d and Argon2id (RFC 9106), version 0x13: the transformed key T of a composite key, a salt of s bytes, passes (I),
+ * memory in bytes (M) and lanes (P). The n words lent are used from the front, KDBX4_ARGON2_WORDS of them, whatever they
+ * hold; they are zeros after it, and those behind them stay. 9: the KDF is neither; 22: a salt of fewer than 8 or more than
+ * 64 bytes, passes not 1 to 64, memory not 8,192 to 67,108,864, lanes not 1 to 16, or under 8,192 bytes of memory a lane;
+ * 17: too few words. A refusal changes nothing. */
+#define KDBX4_ARGON2_WORDS(memory, lanes) \
+    ((lanes) == 0 ? 0 : (memory) / 1024 / (4 * (lanes)) * (4 * (lanes)) * 128)
+uint8_t kdbx4_argon2(uint32_t kdf, const uint8_t composite[32], const uint8_t *salt, size_t s, uint64_t passes,
+                     uint64_t memory, uint32_t lanes, uint64_t *words, size_t n, uint8_t out[32]);
+
 /* Of a master seed and T: the cipher key, and the base of the tag keys. Of the base: the tag key of block i. */
 void kdbx4_cipher_key(const uint8_t seed[32], const uint8_t t[32], uint8_t out[32]);
 void kdbx4_tag_base(const uint8_t seed[32], const uint8_t t[32], uint8_t out[64]);
@@ -87,11 +100,14 @@ typedef struct {
     uint64_t cipher; /* KDBX4_AES256 or KDBX4_CHACHA20 */
     uint64_t length; /* of the header */
     kdbx4_place seed, nonce, kdf_dictionary, custom;
-    kdbx4_place kdf_seed; /* S of AES-KDF */
-    uint64_t rounds;      /* R of AES-KDF */
+    uint64_t kdf;    /* KDBX4_AES_KDF, KDBX4_ARGON2D or KDBX4_ARGON2ID */
+    kdbx4_place salt; /* S: of AES-KDF its seed, 32 bytes */
+    uint64_t rounds; /* R of AES-KDF, or the passes I of Argon2 */
+    uint64_t memory; /* M of Argon2, in bytes; 0 of AES-KDF */
+    uint64_t lanes;  /* P of Argon2; 0 of AES-KDF */
 } kdbx4_header_figures;
 
-/* 1 to 11. */
+/* 1 to 11, 22. */
 uint8_t kdbx4_header(const uint8_t *file, size_t n, kdbx4_header_figures *figures);
 
 /* The text of the header listing: of a refused header too, so that only 17 is answered. A file over 65,536 bytes, the limit
@@ -113,10 +129,10 @@ uint8_t kdbx4_dictionary_find(const uint8_t *dictionary, size_t n, const uint8_t
 
 /* ---- Vaults under the transformed key T ---- */
 
-/* Whole: the payload over the front of `out`, and its length in `count`. 1 to 17. */
+/* Whole: the payload over the front of `out`, and its length in `count`. 1 to 17, 22. */
 uint8_t kdbx4_open(const uint8_t *file, size_t n, const uint8_t t[32], uint8_t *out, size_t room, size_t *count);
 
-/* Block by block. `start`: 1 to 13; a refused start gives a closed state. `step`: the next block of the file, and what it
+/* Block by block. `start`: 1 to 13, 22; a refused start gives a closed state. `step`: the next block of the file, and what it
  * makes due; 17 and 19 leave the state as it was, any other refusal closes it. A step over a block of s bytes hands over at
  * most s + 15. After the closing block KDBX4_IS_ENDED(state) holds, and a further step is 19. */
 #define KDBX4_OPENER_STATE 410
@@ -125,11 +141,13 @@ uint8_t kdbx4_start(const uint8_t *file, size_t n, const uint8_t t[32], uint8_t 
 uint8_t kdbx4_step(uint8_t state[KDBX4_OPENER_STATE], const uint8_t *file, size_t n, uint8_t *out, size_t room,
                    size_t *count);
 
-/* The vault of a minor version, cipher's identifier, master seed, nonce, KDF seed, rounds, custom dictionary (no bytes
- * where it is absent), T and payload: over the front of `out`, and its length in `count`. 4, 9, 5, 11, 10 or 6, 1, 17. */
+/* The vault of a minor version, cipher's identifier, master seed, nonce, KDF with its figures (salt, rounds or passes, and of
+ * Argon2 memory and lanes), custom dictionary (no bytes where it is absent), T and payload: over the front of `out`, and its
+ * length in `count`. 4, 9 (cipher or KDF not listed), 5, 11 of AES-KDF or 22 of Argon2, 10 or 6, 1, 17. */
 uint8_t kdbx4_write(uint16_t minor, const uint8_t *cipher, size_t c, const uint8_t *seed, size_t s, const uint8_t *nonce,
-                    size_t i, const uint8_t *kdf_seed, size_t k, uint64_t rounds, const uint8_t *custom, size_t d,
-                    const uint8_t t[32], const uint8_t *payload, size_t n, uint8_t *out, size_t room, size_t *count);
+                    size_t i, uint32_t kdf, const uint8_t *salt, size_t k, uint64_t rounds, uint64_t memory, uint32_t lanes,
+                    const uint8_t *custom, size_t d, const uint8_t t[32], const uint8_t *payload, size_t n, uint8_t *out,
+                    size_t room, size_t *count);
 
 /* ---- Inner header ---- */
 

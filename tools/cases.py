@@ -3,13 +3,14 @@
 
 FIXTURES is the folder of vaults that other programs wrote, with its manifest.json and keys/: who does not have it
 cannot run this script, and needs only tests/cases/requests and tests/cases/answers, which it writes, one JSON object a
-line. No answer comes from the library: cases_headers.py, cases_keys.py, cases_vaults.py and cases_inner.py say where
-theirs come from. A request has its case's name in "case", at which the driver does not look.
+line. No answer comes from the library: cases_headers.py, cases_keys.py, cases_vaults.py, cases_inner.py and
+cases_argon2.py say where theirs come from. A request has its case's name in "case", at which the driver does not look.
 """
 import json
 import pathlib
 import sys
 
+import cases_argon2
 import cases_headers
 import cases_inner
 import cases_keys
@@ -35,9 +36,12 @@ def unanswered(cases):
 def main(folder):
     cases = Cases()
     manifest = json.loads((folder / "manifest.json").read_text("utf-8"))
-    entries = [(v, e) for v, e in zip(vaults(folder), manifest, strict=True) if v.kdf[b"$UUID"] == AES_KDF]
+    by_kdf = {True: [], False: []}
+    for vault, entry in zip(vaults(folder), manifest, strict=True):
+        by_kdf[vault.kdf[b"$UUID"] == AES_KDF].append((vault, entry))
     for group in (cases_headers, cases_keys, cases_vaults, cases_inner):
-        group.add_all(cases, entries)
+        group.add_all(cases, by_kdf[True])
+    cases_argon2.add_all(cases, by_kdf[False])
     unanswered(cases)
     tests = pathlib.Path(__file__).parent.parent / "tests" / "cases"
     tests.mkdir(exist_ok=True)

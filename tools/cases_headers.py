@@ -45,18 +45,25 @@ def spans(head):
     return found
 
 
-def figures(head, minor, cipher, rounds):
+def aes_kdf(head, rounds):
+    """AES-KDF with the S of a header."""
+    start, size = spans(head)[11]
+    seed_at = head.index(bytes.fromhex("42010000005320000000"), start, start + size) + 10
+    return {"kind": "aeskdf", "S": head[seed_at : seed_at + 32], "R": rounds}
+
+
+def figures(head, minor, cipher, said):
+    """What is answered of a header; `said` is what it says of its KDF."""
     places = spans(head)
     value = {id_: head[start : start + size] for id_, (start, size) in places.items()}
     must(value[2] == {"aes": AES, "chacha": CHACHA20}[cipher], cipher)
-    seed_at = value[11].index(bytes.fromhex("42010000005320000000")) + 10
     return {
         "minor": minor,
         "cipher": cipher,
         "length": len(head),
         "seed": value[4],
         "nonce": value[7],
-        "kdf": {"kind": "aeskdf", "S": value[11][seed_at : seed_at + 32], "R": rounds},
+        "kdf": said,
         "kdf_span": places[11],
         "custom_span": places.get(12),
     }
@@ -98,14 +105,14 @@ WRONG_HEADERS = {
 
 def headers(cases, entries):
     must(len(header()) == 203 and len(FIELDS[11]) == 93, "worked lengths")
-    worked = figures(header(), 1, "chacha", 1)
+    worked = figures(header(), 1, "chacha", aes_kdf(header(), 1))
     cases.add("header", "worked", worked, data=header())
     cases.add("header", "worked, bytes behind", worked, data=header() + b"behind")
     most = header(f11=kdf(rounds=4_000_000))
-    cases.add("header", "most rounds", figures(most, 1, "chacha", 4_000_000), data=most)
+    cases.add("header", "most rounds", figures(most, 1, "chacha", aes_kdf(most, 4_000_000)), data=most)
     aes = header_of(0, AES, SEED, NONCE, KDF_SEED, 0, b"")
     must(len(aes) == 207, "AES header")
-    cases.add("header", "AES, no rounds", figures(aes, 0, "aes", 0), data=aes)
+    cases.add("header", "AES, no rounds", figures(aes, 0, "aes", aes_kdf(aes, 0)), data=aes)
     for name, (no, data) in WRONG_HEADERS.items():
         cases.add("header", name, no, data=data)
     cases.add("list", "worked", {"text": LISTING}, data=header() + b"behind")
@@ -118,7 +125,7 @@ def headers(cases, entries):
             continue
         rounds = int.from_bytes(vault.kdf[b"R"], "little")
         must(rounds == entry.get("R", rounds), vault.name)
-        said = figures(vault.header, int(entry["version"][2:]), entry["cipher"], rounds)
+        said = figures(vault.header, int(entry["version"][2:]), entry["cipher"], aes_kdf(vault.header, rounds))
         cases.add("header", vault.name, said, data=vault.header)
 
 

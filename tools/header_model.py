@@ -1,6 +1,6 @@
-"""A model of the outer header, told from document 01 for the scripts alone: it shares no code with the library.
+"""A model of the outer header, told from documents 01 and 02 (Item 6) for the scripts alone: it shares no code with the library.
 
-A check that fails raises Refused with its number, in document 01's order.
+A check that fails raises Refused with its number, in the documents' order.
 """
 SIGNATURES = bytes.fromhex("03d9a29a67fb4bb5")
 AES = bytes.fromhex("31c1f2e6bf714350be5805216afc5aff")
@@ -8,6 +8,8 @@ CHACHA20 = bytes.fromhex("d6038a2b8b6f4cb5a524339a31dbb59a")
 TWOFISH = bytes.fromhex("ad68f29f576f4bb9a36ad47af965346c")
 AES_KDF = bytes.fromhex("c9d9f39a628a4460bf740d08c18a4fea")
 ARGON2D = bytes.fromhex("ef636ddf8c29444b91f7a9a403e30a0c")
+ARGON2ID = bytes.fromhex("9e298b1956db4773b23dfc3ec6f0a1e6")
+ARGON2_ITEMS = {b"V": 0x04, b"S": 0x42, b"I": 0x05, b"M": 0x05, b"P": 0x04}
 END = b"\r\n\r\n"
 SIZES = {0: 4, 2: 16, 3: 4, 4: 32, 7: None, 11: None, 12: None}
 NONCE_SIZES = {AES: 16, CHACHA20: 12}
@@ -59,12 +61,24 @@ def judge_kdf(d):
     items = sound_items(d)
     kind, value = items.get(b"$UUID", (None, b""))
     need(kind == 0x42 and len(value) == 16, 10)
-    need(value == AES_KDF, 9)
+    need(value in (AES_KDF, ARGON2D, ARGON2ID), 9)
+    if value != AES_KDF:
+        return judge_argon2(items)
     kind, value = items.get(b"S", (None, b""))
     need(kind == 0x42 and len(value) == 32, 10)
     kind, value = items.get(b"R", (None, b""))
     need(kind == 0x05, 10)
     need(int.from_bytes(value, "little") <= 4_000_000, 11)
+
+
+def judge_argon2(items):
+    for name, kind in ARGON2_ITEMS.items():
+        need(items.get(name, (None, b""))[0] == kind, 10)
+    v, i, m, p = (int.from_bytes(items[name][1], "little") for name in (b"V", b"I", b"M", b"P"))
+    need(v == 0x13 and b"K" not in items and b"A" not in items, 9)
+    need(8 <= len(items[b"S"][1]) <= 64, 22)
+    need(1 <= i <= 64 and 8_192 <= m <= 67_108_864 and 1 <= p <= 16, 22)
+    need(m >= 8_192 * p, 22)
 
 
 def read_header(data, limit):

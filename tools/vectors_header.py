@@ -11,7 +11,7 @@ import pathlib
 import sys
 
 from header_model import (
-    AES, AES_KDF, ARGON2D, CHACHA20, END, ITEM_SIZES, SIGNATURES, TWOFISH, Refused, number, read_header
+    AES, AES_KDF, ARGON2D, ARGON2ID, CHACHA20, END, ITEM_SIZES, SIGNATURES, TWOFISH, Refused, number, read_header
 )
 from vaults import text_field, vaults
 
@@ -48,6 +48,18 @@ def dictionary(*items, version=b"\x00\x01", end=b"\x00"):
 
 def rounds(n):
     return dictionary(UUID, item(0x05, b"R", number(n, 8)), S)
+
+
+def argon2_dictionary(*more, uuid=ARGON2D, **changed):
+    """The dictionary of a form of Argon2, with changes: V=0x10 replaces the version, S=None leaves the salt out."""
+    figures = {"I": 2, "M": 65_536, "P": 2, "S": b"\x33" * 32, "V": 0x13} | changed
+    sizes = {"I": (0x05, 8), "M": (0x05, 8), "P": (0x04, 4), "V": (0x04, 4)}
+    items = [
+        item(0x42, b"S", v) if name == "S" else item(sizes[name][0], name.encode(), number(v, sizes[name][1]))
+        for name, v in sorted(figures.items())
+        if v is not None
+    ]
+    return dictionary(item(0x42, b"$UUID", uuid), *items, *more)
 
 
 KDF = dictionary(UUID, R, S)
@@ -195,9 +207,9 @@ def kdf(cases):
     kdf_case("uuid-as-string", dictionary(item(0x18, b"$UUID", AES_KDF), R, S), 10)
     kdf_case("uuid-of-15", dictionary(item(0x42, b"$UUID", AES_KDF[:15]), R, S), 10)
     kdf_case("uuid-lower-case-name", dictionary(item(0x42, b"$uuid", AES_KDF), R, S), 10)
-    kdf_case("argon2", dictionary(item(0x42, b"$UUID", ARGON2D), R, S), 9)
-    kdf_case("argon2-and-no-seed", dictionary(item(0x42, b"$UUID", ARGON2D)), 9)
-    kdf_case("argon2-and-repeated-name", dictionary(item(0x42, b"$UUID", ARGON2D), R, R), 6)
+    kdf_case("unlisted", dictionary(item(0x42, b"$UUID", TWOFISH), R, S), 9)
+    kdf_case("unlisted-and-no-seed", dictionary(item(0x42, b"$UUID", TWOFISH)), 9)
+    kdf_case("unlisted-and-repeated-name", dictionary(item(0x42, b"$UUID", TWOFISH), R, R), 6)
     kdf_case("no-seed", dictionary(UUID, R), 10)
     kdf_case("seed-as-string", dictionary(UUID, R, item(0x18, b"S", bytes(32))), 10)
     kdf_case("seed-of-31", dictionary(UUID, R, item(0x42, b"S", bytes(31))), 10)
@@ -210,6 +222,38 @@ def kdf(cases):
     kdf_case("rounds-over-and-no-seed", dictionary(UUID, item(0x05, b"R", number(2**32, 8))), 10)
 
 
+def argon2(cases):
+    def argon2_case(name, expected, *more, uuid=ARGON2D, **changed):
+        cases.case(f"argon2-{name}", header(f11=argon2_dictionary(*more, uuid=uuid, **changed)), expected)
+
+    argon2_case("d", 0)
+    argon2_case("id", 0, uuid=ARGON2ID)
+    argon2_case("other-item", 0, item(0x18, b"k", b""))
+    argon2_case("most", 0, S=b"\x33" * 64, I=64, M=67_108_864, P=16)
+    argon2_case("least", 0, S=b"\x33" * 8, I=1, M=8_192, P=1)
+    argon2_case("lanes-with-least-memory", 0, M=131_072, P=16)
+    for name in "VSIMP":
+        argon2_case(f"no-{name}", 10, **{name: None})
+        argon2_case(f"{name}-as-string", 10, item(0x18, name.encode(), b"\0" * 8), **{name: None})
+        argon2_case(f"no-{name}-and-secret", 10, item(0x42, b"K", b""), **{name: None})
+    argon2_case("version-10", 9, V=0x10)
+    argon2_case("version-10-and-no-passes", 10, V=0x10, I=None)
+    argon2_case("version-10-and-salt-of-7", 9, V=0x10, S=bytes(7))
+    argon2_case("secret", 9, item(0x42, b"K", b""))
+    argon2_case("associated", 9, item(0x18, b"A", b""))
+    argon2_case("secret-and-no-lanes-at-all", 9, item(0x42, b"K", b""), P=0)
+    argon2_case("salt-of-7", 22, S=bytes(7))
+    argon2_case("salt-of-65", 22, S=bytes(65))
+    argon2_case("passes-0", 22, I=0)
+    argon2_case("passes-65", 22, I=65)
+    argon2_case("passes-2^32", 22, I=2**32 + 1)
+    argon2_case("memory-8191", 22, M=8_191)
+    argon2_case("memory-67108865", 22, M=67_108_865)
+    argon2_case("lanes-0", 22, P=0)
+    argon2_case("lanes-17", 22, P=17)
+    argon2_case("memory-under-lanes", 22, M=131_071, P=16)
+
+
 def custom(cases):
     def custom_case(name, d, expected, **changed):
         cases.case(f"custom-{name}", header(f12=d, **changed), expected)
@@ -220,7 +264,8 @@ def custom(cases):
     custom_case("version-2", dictionary(version=b"\x00\x02"), 10)
     custom_case("repeated-name", twice, 6)
     custom_case("broken-and-kdf-repeated-name", b"", 6, f11=dictionary(UUID, R, R, S))
-    custom_case("broken-and-kdf-argon2", b"", 9, f11=dictionary(item(0x42, b"$UUID", ARGON2D), R, S))
+    custom_case("broken-and-kdf-unlisted", b"", 9, f11=dictionary(item(0x42, b"$UUID", TWOFISH), R, S))
+    custom_case("broken-and-kdf-outside", b"", 22, f11=argon2_dictionary(P=17))
     custom_case("broken-and-rounds-over", b"", 11, f11=rounds(4_000_001))
     custom_case("repeated-name-and-kdf-broken", twice, 10, f11=dictionary(R, S))
 
@@ -249,6 +294,7 @@ def main(folder):
     fields(cases)
     after_the_end(cases)
     kdf(cases)
+    argon2(cases)
     custom(cases)
     changed(cases)
     written(cases, folder)

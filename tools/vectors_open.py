@@ -4,15 +4,20 @@
 FIXTURES is the folder of vaults that other programs wrote, with its manifest.json and keys/: who does not have it
 cannot run this script, and needs only the files that it writes. The other vaults are crates/open/data/bench.kdbx, which
 tools/sample.py made, damaged copies of it, and two that are made here. Numbers, documents and hashes come from the
-openers of vectors_vault.py, with T by the AES of the package cryptography, which is OpenSSL; the documents of the
-vaults in FIXTURES are compared with the manifest's hashes. The number expected of each case is told beside it, by hand.
+openers of vectors_vault.py, with T by the AES and the Argon2 of the package cryptography, which is OpenSSL; the
+documents of the vaults in FIXTURES are compared with the manifest's hashes. The number expected of each case is told
+beside it, by hand.
 The sentences are the indented lines of docs/REFUSALS.md, so that the gate holds the program to that page.
 """
 import json
 import pathlib
 import sys
 
-from header_model import CHACHA20, SIGNATURES, Refused, int32, need, read_header, sound_items
+from cryptography.hazmat.primitives.kdf.argon2 import Argon2d, Argon2id
+
+from header_model import (
+    AES_KDF, ARGON2D, ARGON2ID, CHACHA20, SIGNATURES, Refused, int32, need, read_header, sound_items
+)
 from sample import PASSWORD, transformed
 from vaults import text_field
 from digests import must, sha256
@@ -22,14 +27,17 @@ ROOT = pathlib.Path(__file__).parent.parent
 BENCH = ROOT / "crates" / "open" / "data" / "bench.kdbx"
 PROGRAM_LIMIT = 65_536
 FILE_LIMIT = 4_194_304
+# The refusals that have a sentence, and the words of memory that crates/vectors_open lends.
+NUMBERS = (*range(1, 20), 22)
+LENT = 524_288
 
 
 def sentences():
     """The program's line for each number, from docs/REFUSALS.md."""
     page = (ROOT / "docs" / "REFUSALS.md").read_text().splitlines()
     lines = [line[4:] for line in page if line.startswith("    Refused ")]
-    must([line.split(":")[0] for line in lines] == [f"Refused {n}" for n in range(1, 20)], "docs/REFUSALS.md")
-    return lines
+    must([line.split(":")[0] for line in lines] == [f"Refused {n}" for n in NUMBERS], "docs/REFUSALS.md")
+    return dict(zip(NUMBERS, lines))
 
 
 def composite(password, key_file):
@@ -54,13 +62,25 @@ def document_of(payload):
     return payload[at:]
 
 
+def key_of(composite, items):
+    """T by the KDF of an accepted header."""
+    def figure(name):
+        return int.from_bytes(items[name][1], "little")
+
+    uuid, salt = items[b"$UUID"][1], items[b"S"][1]
+    if uuid == AES_KDF:
+        return transformed(composite, salt, figure(b"R"))
+    form = {ARGON2D: Argon2d, ARGON2ID: Argon2id}[uuid]
+    m, p = figure(b"M") // 1024, figure(b"P")
+    need(128 * (m // (4 * p) * 4 * p) <= LENT, 17)
+    return form(salt=salt, length=32, iterations=figure(b"I"), lanes=p, memory_cost=m).derive(composite)
+
+
 def unlocked(f, password, key_file):
     need(len(f) <= PROGRAM_LIMIT, 1)
     key = composite(password, key_file)
     values, _ = read_header(f, FILE_LIMIT)
-    items = sound_items(values[11])
-    t = transformed(key, items[b"S"][1], int.from_bytes(items[b"R"][1], "little"))
-    return document_of(open_whole(f, t, PROGRAM_LIMIT))
+    return document_of(open_whole(f, key_of(key, sound_items(values[11])), PROGRAM_LIMIT))
 
 
 class Cases:
@@ -81,25 +101,31 @@ class Cases:
             no, document = r.args[0], None
         must(no == expected, (name, no, expected))
         if no:
-            self.rows.append(f"{name} {self.lines[no - 1]}")
+            self.rows.append(f"{name} {self.lines[no]}")
         else:
             self.rows.append(f"document {name} {len(document)} 0 {sha256(document).hex()}")
         return document
 
 
 def others(cases, folder):
-    """Vaults of other programs: password, empty password, key file, both; and three that are refused."""
+    """Vaults of other programs by each KDF: password, empty password, key file, both; and those that are refused."""
     entries = {entry["file"]: entry for entry in json.loads((folder / "manifest.json").read_text("utf-8"))}
     for file, expected in (
         ("kp2-v40-aes-aeskdf-pw.kdbx", 0), ("xc-v41-chacha-aeskdf-empty.kdbx", 0),
         ("py-v40-chacha-aeskdf-kf32.kdbx", 0), ("py-v41-aes-aeskdf-pwkf.kdbx", 0), ("v41-aes-aeskdf-kfother.kdbx", 0),
-        ("xc-v41-aes-argon2id-pw.kdbx", 9), ("rounds-4000001.kdbx", 11), ("unpatched-aes.kdbx", 5),
+        ("kp2-v40-aes-argon2d-pw.kdbx", 0), ("kp2-v40-chacha-argon2id-pwkf.kdbx", 0),
+        ("xc-v41-aes-argon2id-pw.kdbx", 0), ("xc-v40-chacha-argon2d-kfother.kdbx", 0),
+        ("py-v41-chacha-argon2id-kf32.kdbx", 0), ("v40-aes-argon2d-empty.kdbx", 0), ("argon-min.kdbx", 0),
+        ("argon-odd-m.kdbx", 0), ("argon-m64.kdbx", 17),
+        ("argon-i65.kdbx", 22), ("argon-salt65.kdbx", 22), ("rounds-4000001.kdbx", 11), ("unpatched-aes.kdbx", 5),
     ):
         entry, f = entries[file], (folder / file).read_bytes()
         password = entry["password"].encode("utf-8") if "password" in entry else None
         key_file = (folder / entry["keyfile"]).read_bytes() if "keyfile" in entry else None
         document = cases.case(file.removesuffix(".kdbx"), expected, f, password, key_file)
         must(document is None or sha256(document).hex() == entry["document_sha256"], file)
+    file = "xc-v41-aes-argon2id-pw.kdbx"
+    cases.case("argon2_wrong_password", 13, (folder / file).read_bytes(), b"correct hearse", file=file)
 
 
 def bench(cases):
@@ -142,7 +168,7 @@ def main(folder):
     document = bench(cases)
     made(cases)
     (crate / "stdin").write_text("".join(f"{line}\n" for line in cases.table))
-    (crate / "stdout").write_text("".join(f"{line}\n" for line in cases.rows + cases.lines))
+    (crate / "stdout").write_text("".join(f"{line}\n" for line in cases.rows + list(cases.lines.values())))
     crate = ROOT / "crates" / "open"
     (crate / "args").write_text("bench.kdbx\n")
     (crate / "stdin").write_text(f"{PASSWORD}\n")

@@ -22,7 +22,8 @@ from vaults import text_field, vaults
 
 FILE_LIMIT = 4_194_304
 TABLE_LIMIT = 1_000_000
-# The table has no room for all vaults: of two of KeePass 2 with Argon2, whose headers are refused, one is left out.
+# The table has no room for all vaults: of two of KeePass 2 with Argon2 one is left out, and those that 22 refuses
+# (vectors_open has them).
 LEFT_OUT = "kp2-v40-chacha-argon2id-pwkf"
 OUTPUT = 65_536
 
@@ -318,7 +319,8 @@ def damaged_headers(cases):
     case("no-kdf", 8, f11=None)
     case("twofish", 9, f2=TWOFISH)
     case("compressed", 9, f3=number(1, 4))
-    case("argon2d", 9, f11=kdf(ARGON2D))
+    case("unlisted-kdf", 9, f11=kdf(bytes(16)))
+    case("argon2d-without-items", 10, f11=kdf(ARGON2D))
     case("kdf-seed-of-31", 10, f11=kdf(seed=bytes(31)))
     case("custom-broken", 10, f12=b"\0\2\0")
     case("rounds-over", 11, f11=kdf(rounds=4_000_001))
@@ -462,10 +464,9 @@ def from_vaults(cases, folder):
     entries = json.loads((folder / "manifest.json").read_text("utf-8"))
     for vault, entry in zip(vaults(folder), entries, strict=True):
         must(sha256(vault.file).hex() == entry["file_sha256"], vault.name)
-        if entry.get("expect", 0) == 22 or vault.name == LEFT_OUT:
+        expected = entry.get("expect", 0)
+        if expected == 22 or vault.name == LEFT_OUT:
             continue
-        listed = vault.kdf[b"$UUID"] == AES_KDF
-        expected = entry.get("expect", 0) if listed else 9
         payload = cases.case(vault.name, expected, vault.file, vault.t or bytes(32))
         if expected == 0:
             must(block_sizes(vault.file, vault.t) == entry["blocks"], vault.name)

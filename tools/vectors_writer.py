@@ -1,10 +1,10 @@
 #!/usr/bin/env python3
 """Write what crates/vectors_writer reads and must print:   tools/vectors_writer.py
 
-The files come from a writer of its own, told here from document 01: header, hash, tag and blocks by Python's hashlib
-and hmac, AES and ChaCha20 by the Python package cryptography, which is OpenSSL. The numbers come from its checks, made
-in document 01's order, and each is compared with the number that its case is to give. The lengths that document 01
-gives are compared too.
+The files come from a writer of its own, told here from documents 01 and 02 (Item 6): header, hash, tag and blocks by
+Python's hashlib and hmac, AES and ChaCha20 by the Python package cryptography, which is OpenSSL. The numbers come from
+its checks, made in document 01's order with 22 in 11's place, and each is compared with the number that its case is to
+give. The lengths that document 01 gives are compared too. No KDF is run: T is given.
 """
 import hmac
 import pathlib
@@ -22,6 +22,9 @@ OUTPUT = 65_536
 AES = bytes.fromhex("31C1F2E6BF714350BE5805216AFC5AFF")
 CHACHA20 = bytes.fromhex("D6038A2B8B6F4CB5A524339A31DBB59A")
 AES_KDF = bytes.fromhex("C9D9F39A628A4460BF740D08C18A4FEA")
+ARGON2D = bytes.fromhex("EF636DDF8C29444B91F7A9A403E30A0C")
+ARGON2ID = bytes.fromhex("9E298B1956DB4773B23DFC3EC6F0A1E6")
+KDFS = (AES_KDF, ARGON2D, ARGON2ID)
 NONCE_SIZE = {AES: 16, CHACHA20: 12}
 # The sizes of a dictionary's types; None where any will do.
 TYPES = {0x04: 4, 0x05: 8, 0x08: 1, 0x0C: 4, 0x0D: 8, 0x18: None, 0x42: None}
@@ -77,13 +80,23 @@ def check_dictionary(s):
         raise Refused(10)
 
 
-def header_of(minor, cipher, seed, nonce, kdf_seed, rounds, custom):
+def kdf_dictionary(kdf, salt, costs):
+    """The dictionary of a KDF. Its costs are AES-KDF's rounds, or Argon2's passes, memory and lanes."""
+    uuid, salt_item = item(0x42, b"$UUID", kdf), item(0x42, b"S", salt)
+    if kdf == AES_KDF:
+        return dictionary(uuid, item(0x05, b"R", le(costs, 8)), salt_item)
+    passes, memory, lanes = costs
+    figures = item(0x05, b"I", le(passes, 8)), item(0x05, b"M", le(memory, 8)), item(0x04, b"P", le(lanes, 4))
+    return dictionary(uuid, *figures, salt_item, item(0x04, b"V", le(0x13, 4)))
+
+
+def header_of(minor, cipher, seed, nonce, salt, costs, custom, kdf=AES_KDF):
     def field(id_, value):
         return bytes([id_]) + le(len(value), 4) + value
 
-    kdf = dictionary(item(0x42, b"$UUID", AES_KDF), item(0x05, b"R", le(rounds, 8)), item(0x42, b"S", kdf_seed))
     header = le(0x9AA2D903, 4) + le(0xB54BFB67, 4) + le(minor, 2) + le(4, 2)
-    header += field(2, cipher) + field(3, bytes(4)) + field(4, seed) + field(7, nonce) + field(11, kdf)
+    header += field(2, cipher) + field(3, bytes(4)) + field(4, seed) + field(7, nonce)
+    header += field(11, kdf_dictionary(kdf, salt, costs))
     if custom:
         header += field(12, custom)
     return header + field(0, b"\r\n\r\n")
@@ -98,15 +111,26 @@ def encrypted(cipher, key, nonce, payload):
     return Cipher(algorithms.ChaCha20(key, bytes(4) + nonce), None).encryptor().update(payload)
 
 
-def write(minor, cipher, seed, nonce, kdf_seed, rounds, custom, t, payload, room):
+def check_costs(kdf, salt, costs):
+    """Refuses rounds over their limit (11), or a figure of Argon2 that is outside its bounds (22)."""
+    if kdf == AES_KDF:
+        if costs > 4_000_000:
+            raise Refused(11)
+        return
+    passes, memory, lanes = costs
+    inside = 8 <= len(salt) <= 64 and 1 <= passes <= 64 and 8_192 <= memory <= 67_108_864 and 1 <= lanes <= 16
+    if not inside or memory < 8_192 * lanes:
+        raise Refused(22)
+
+
+def write(minor, cipher, seed, nonce, salt, costs, custom, t, payload, room, kdf=AES_KDF):
     if minor not in (0, 1):
         raise Refused(4)
     if cipher not in NONCE_SIZE:
         raise Refused(9)
-    if (len(seed), len(nonce), len(kdf_seed)) != (32, NONCE_SIZE[cipher], 32):
+    if (len(seed), len(nonce)) != (32, NONCE_SIZE[cipher]) or (kdf == AES_KDF and len(salt) != 32):
         raise Refused(5)
-    if rounds > 4_000_000:
-        raise Refused(11)
+    check_costs(kdf, salt, costs)
     if custom:
         check_dictionary(custom)
     if len(payload) > LIMIT:
@@ -116,7 +140,7 @@ def write(minor, cipher, seed, nonce, kdf_seed, rounds, custom, t, payload, room
     def tag(i, message):
         return hmac.digest(sha512(le(i, 8), base), message, "sha256")
 
-    header = header_of(minor, cipher, seed, nonce, kdf_seed, rounds, custom)
+    header = header_of(minor, cipher, seed, nonce, salt, costs, custom, kdf)
     text = encrypted(cipher, sha256(seed, t), nonce, payload)
     parts = [header, sha256(header), tag(2**64 - 1, header)]
     blocks = [text[at : at + BLOCK] for at in range(0, len(text), BLOCK)] + [b""]
@@ -131,9 +155,10 @@ def write(minor, cipher, seed, nonce, kdf_seed, rounds, custom, t, payload, room
     return file
 
 
-def line_of(name, minor, cipher, seed, nonce, kdf_seed, rounds, custom, t, payload, room):
+def line_of(name, minor, cipher, seed, nonce, kdf, salt, costs, custom, t, payload, room):
     """A line of the program's standard input. A payload that is a number has so many bytes by rule."""
-    parts = [name, minor, *map(text_field, (cipher, seed, nonce, kdf_seed)), rounds]
+    parts = [name, minor, *map(text_field, (cipher, seed, nonce)), KDFS.index(kdf), text_field(salt)]
+    parts += (costs, 0, 0) if kdf == AES_KDF else costs
     parts += [text_field(custom or None), text_field(t)]
     parts += [payload if isinstance(payload, int) else text_field(payload), room]
     return " ".join(map(str, parts))
@@ -187,8 +212,9 @@ SOUND = {
     "cipher": AES,
     "seed": counted(0x10, 32),
     "nonce": counted(0xA0, 16),
-    "kdf_seed": counted(0x50, 32),
-    "rounds": 6000,
+    "kdf": AES_KDF,
+    "salt": counted(0x50, 32),
+    "costs": 6000,
     "custom": b"",
     "t": counted(0xE8, 32),
     "payload": 100,
@@ -196,6 +222,39 @@ SOUND = {
 }
 SOUND_CHACHA20 = SOUND | {"cipher": CHACHA20, "nonce": counted(0xC0, 12)}
 BOTH = {"aes": SOUND, "chacha20": SOUND_CHACHA20}
+# Argon2's figures: two sound sets, and what is changed in them, to a bound or outside it.
+ARGON2 = {"argon2d": {"kdf": ARGON2D, "costs": (2, 65_536, 4)}, "argon2id": {"kdf": ARGON2ID, "costs": (3, 65_536, 2)}}
+BOUNDS = {
+    "salt-8": {"salt": counted(0, 8)},
+    "salt-31": {"salt": counted(0, 31)},
+    "salt-33": {"salt": counted(0, 33)},
+    "salt-64": {"salt": counted(0, 64)},
+    "passes-1": {"costs": (1, 65_536, 4)},
+    "passes-64": {"costs": (64, 65_536, 4)},
+    "memory-least": {"costs": (2, 8_192, 1)},
+    "memory-odd": {"costs": (2, 29_577, 3)},
+    "memory-most": {"costs": (2, 67_108_864, 1)},
+    "lanes-16": {"costs": (2, 131_072, 16)},
+    "all-least": {"salt": counted(0, 8), "costs": (1, 8_192, 1)},
+    "all-most": {"salt": counted(0, 64), "costs": (64, 67_108_864, 16)},
+}
+OUTSIDE = {
+    "salt-absent": {"salt": None},
+    "salt-7": {"salt": counted(0, 7)},
+    "salt-65": {"salt": counted(0, 65)},
+    "passes-0": {"costs": (0, 65_536, 4)},
+    "passes-65": {"costs": (65, 65_536, 4)},
+    "passes-2-to-32": {"costs": (2**32 + 1, 65_536, 4)},
+    "memory-8191": {"costs": (2, 8_191, 1)},
+    "memory-0": {"costs": (2, 0, 1)},
+    "memory-67108865": {"costs": (2, 67_108_865, 1)},
+    "memory-2-to-32": {"costs": (2, 2**32 + 65_536, 1)},
+    "lanes-0": {"costs": (2, 65_536, 0)},
+    "lanes-17": {"costs": (2, 67_108_864, 17)},
+    "lanes-2-to-31": {"costs": (2, 67_108_864, 2**31 + 1)},
+    "memory-for-2-lanes": {"costs": (2, 16_383, 2)},
+    "memory-for-16-lanes": {"costs": (2, 131_071, 16)},
+}
 LENGTHS = (0, 1, 15, 16, 17, 16_383, 16_384, 16_385, 32_767, 32_768, 40_000)
 # Document 01, "Numbers to meet": the lengths of files without a custom dictionary.
 GIVEN = {
@@ -229,7 +288,7 @@ WRONG = [
     (4, {"minor": 2}),
     (9, {"cipher": counted(0, 16)}),
     (5, {"seed": counted(0, 31)}),
-    (11, {"rounds": 4_000_001}),
+    (11, {"costs": 4_000_001}),
     (10, {"custom": b"\x00\x02\x00"}),
     (1, {"payload": LIMIT + 1}),
     (17, {"room": 0}),
@@ -245,22 +304,22 @@ REFUSED = {
     "cipher-last-byte": (9, {"cipher": AES[:-1] + b"\xfe"}),
     "seed-absent": (5, {"seed": None}),
     "seed-of-33": (5, {"seed": counted(0, 33)}),
-    "kdf-seed-absent": (5, {"kdf_seed": None}),
-    "kdf-seed-of-31": (5, {"kdf_seed": counted(0, 31)}),
-    "kdf-seed-of-33": (5, {"kdf_seed": counted(0, 33)}),
+    "kdf-seed-absent": (5, {"salt": None}),
+    "kdf-seed-of-31": (5, {"salt": counted(0, 31)}),
+    "kdf-seed-of-33": (5, {"salt": counted(0, 33)}),
     "nonce-absent": (5, {"nonce": None}),
     "nonce-of-15": (5, {"nonce": counted(0, 15)}),
     "nonce-of-17": (5, {"nonce": counted(0, 17)}),
     "nonce-of-12": (5, {"nonce": counted(0, 12)}),
     "chacha20-nonce-of-16": (5, {"cipher": CHACHA20}),
     "chacha20-nonce-of-11": (5, {"cipher": CHACHA20, "nonce": counted(0, 11)}),
-    "rounds-2-to-32": (11, {"rounds": 2**32}),
-    "rounds-of-18-digits": (11, {"rounds": 10**18 - 1}),
+    "rounds-2-to-32": (11, {"costs": 2**32}),
+    "rounds-of-18-digits": (11, {"costs": 10**18 - 1}),
     "payload-longest": (1, {"payload": LIMIT}),
     "repeated-no-room": (6, {"custom": DICTIONARIES["repeated"][1], "room": 0}),
-    "rounds-repeated": (11, {"custom": DICTIONARIES["repeated"][1], "rounds": 4_000_001}),
-    "nonce-rounds": (5, {"nonce": counted(0, 15), "rounds": 4_000_001}),
-    "kdf-seed-rounds": (5, {"kdf_seed": counted(0, 31), "rounds": 4_000_001}),
+    "rounds-repeated": (11, {"custom": DICTIONARIES["repeated"][1], "costs": 4_000_001}),
+    "nonce-rounds": (5, {"nonce": counted(0, 15), "costs": 4_000_001}),
+    "kdf-seed-rounds": (5, {"salt": counted(0, 31), "costs": 4_000_001}),
     "cipher-nonce": (9, {"cipher": None, "nonce": counted(0, 15)}),
 }
 
@@ -281,7 +340,23 @@ def accepted(cases):
         cases.case(f"{cipher}-given", 0, figures | {"payload": b"A payload that the line gives."})
         cases.case(f"file-{cipher}", 0, figures | {"payload": 17, "custom": CUSTOM})
         for rounds in (0, 1, 4_000_000):
-            cases.case(f"{cipher}-rounds-{rounds}", 0, figures | {"rounds": rounds})
+            cases.case(f"{cipher}-rounds-{rounds}", 0, figures | {"costs": rounds})
+
+
+def accepted_argon2(cases):
+    for cipher, figures in BOTH.items():
+        for kdf, argon2 in ARGON2.items():
+            sound = figures | argon2
+            for n in (0, 1, 17, 16_383, 16_384, 40_000):
+                for custom in (b"", CUSTOM):
+                    form = f"{cipher}-{kdf}-{n}" + ("-custom" if custom else "")
+                    length = cases.case(form, 0, sound | {"custom": custom, "payload": n})
+                    # Argon2's dictionary has 107 bytes and the salt, AES-KDF's 93.
+                    assert custom or length - 139 + 93 == GIVEN.get((cipher, n), length - 139 + 93), form
+            cases.case(f"{cipher}-{kdf}-4.0", 0, sound | {"minor": 0})
+            cases.case(f"file-{cipher}-{kdf}", 0, sound | {"payload": 17, "custom": CUSTOM})
+            for name, bound in BOUNDS.items():
+                cases.case(f"{cipher}-{kdf}-{name}", 0, sound | bound)
 
 
 def refused(cases):
@@ -305,6 +380,33 @@ def refused(cases):
         cases.case(f"{cipher}-over-file", 1, figures | {"payload": n + 1, "room": 0})
 
 
+def refused_argon2(cases):
+    """22, before it 4, 9 and 5, behind it 10, 6, 1 and 17. A salt of another size than 32 is no 5."""
+    for cipher, figures in BOTH.items():
+        for kdf, argon2 in ARGON2.items():
+            sound = figures | argon2
+            for name, outside in OUTSIDE.items():
+                cases.case(f"{cipher}-{kdf}-{name}", 22, without_nones(sound | outside))
+            room = cases.case(f"{cipher}-{kdf}-whole-room", 0, sound)
+            cases.case(f"{cipher}-{kdf}-just-room", 0, sound | {"room": room})
+            cases.case(f"{cipher}-{kdf}-no-room", 17, sound | {"room": room - 1})
+            # As in `refused`, with a KDF dictionary that is 46 bytes longer.
+            text = LIMIT - (317 if cipher == "aes" else 313) - 36 * 257
+            n = text // 16 * 16 - 1 if cipher == "aes" else text
+            cases.case(f"{cipher}-{kdf}-longest-file", 17, sound | {"payload": n})
+            cases.case(f"{cipher}-{kdf}-over-file", 1, sound | {"payload": n + 1, "room": 0})
+    for kdf, argon2 in ARGON2.items():
+        sound = SOUND | argon2
+        for name in ("salt-7", "salt-65", "passes-0", "memory-for-2-lanes"):
+            outside = OUTSIDE[name]
+            for number, wrong in (w for w in WRONG if w[0] != 11):
+                first = number if number in (4, 9, 5) else 22
+                cases.case(f"{kdf}-tie-{number}-{name}", first, sound | wrong | outside)
+            cases.case(f"{kdf}-tie-6-{name}", 22, sound | outside | {"custom": DICTIONARIES["repeated"][1]})
+            cases.case(f"{kdf}-tie-nonce-{name}", 5, sound | outside | {"nonce": counted(0, 15)})
+        cases.case(f"{kdf}-salt-31-custom-broken", 10, sound | BOUNDS["salt-31"] | {"custom": b"\x00\x02\x00"})
+
+
 def ties(cases):
     """Each number alone, each two of them, and all from each on: the first in the order is given."""
     for i, (number, wrong) in enumerate(WRONG):
@@ -320,7 +422,9 @@ def main():
     crate = pathlib.Path(__file__).parent.parent / "crates" / "vectors_writer"
     cases = Cases()
     accepted(cases)
+    accepted_argon2(cases)
     refused(cases)
+    refused_argon2(cases)
     ties(cases)
     (crate / "stdin").write_text("".join(f"{line}\n" for line in cases.table))
     (crate / "stdout").write_text("".join(f"{line}\n" for line in cases.rows))

@@ -3,8 +3,8 @@
 --
 -- In order: answer-accepted, answer-refused; answer-wrote, answer-not-written of an operation that writes into a slice;
 -- figuresOr-refused, answer-figures, answer-no-figures of one that answers figures, by its answer's number n;
--- keptOr-wrote, keptOr-17, keptOr-19, keptOr-next of a step's state, by its number; join-is, two halves as code lays
--- them.
+-- outcome-transformed, key-transformed of a run of Argon2; keptOr-wrote, keptOr-17, keptOr-19, keptOr-next of a step's
+-- state, by its number; join-is, two halves as code lays them.
 -- Assumes nothing.
 use mathlib.Core.Path.{_≡_, refl, sym, ap, _∙_}
 use mathlib.Core.List.{List, _++_}
@@ -22,6 +22,8 @@ use Rattle.refusals.specs.declared.Outcome.{Outcome}
 use Rattle.refusals.specs.declared.Outcome.the-variants.{Accepted, Refused}
 use Rattle.refusals.specs.declared.Written.{Written}
 use Rattle.refusals.specs.declared.Written.the-variants as written
+use Rattle.argon2.specs.Rfc9106.{Inputs, tag}
+use Rattle.argon2.specs.Run.{transformed}
 use Rattle.exports.specs.Lent.{resultOr, figuresOr, countOr, keptOr}
 
 pub answer-accepted : {o p : Outcome} {x y : List ℕ} (had : List ℕ) → o ≡ p → x ≡ y → o ≡ Accepted
@@ -50,6 +52,15 @@ answer-figures had e f = rw e (refl, f)
 pub answer-no-figures : {n m : ℕ} {had : List ℕ} (r : Refusal) (y : List ℕ) → n ≡ ofRefusal r → m ≡ ofRefusal r
     → (m ≡ n) × (had ≡ figuresOr n y had)
 answer-no-figures {had} r y e f = rw e (f, figuresOr-refused r y had)
+
+pub outcome-transformed : (o : Outcome) (i : Inputs) → transformed o i .outcome ≡ o
+unfolding transformed
+outcome-transformed Accepted i = refl
+outcome-transformed (Refused r) i = refl
+
+pub key-transformed : (o : Outcome) (i : Inputs) → o ≡ Accepted → transformed o i .key ≡ tag i
+unfolding transformed
+key-transformed o i e = rw e
 
 pub keptOr-wrote : {k : ℕ} {x y : List ℕ} (had : List ℕ) → 0 ≡ k → x ≡ y → x ≡ keptOr k y had
 keptOr-wrote had e f = rw (sym e) f

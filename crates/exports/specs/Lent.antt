@@ -3,15 +3,20 @@
 --
 --   resultOr      a result, where the operation accepts
 --   figuresOr     figures, where their answer's number is 0
+--   headerWith    the figures of a header with those of its KDF
+--   argon2Kind    the kind of Argon2 that a number of C stands for; argon2Outcome: 9 where it stands for none
+--   chosen        the KDF that a number of C and figures stand for; answerBy, bytesBy: a writing with it
 --   countOr       a number of bytes, where the operation wrote them
 --   stepped       a step from the state that 410 bytes stand for
 --   keptOr        the bytes of the state after it, by its number; stateOr
 --   credential    the credential that a slice and a flag of C stand for
 -- Assumes nothing.
-use mathlib.Core.Bool.{cond, not}
-use mathlib.Core.List.{List}
+use mathlib.Core.Bool.{cond, not, _||_}
+use mathlib.Core.List.{List, [], _∷_}
 use Prim.Native.Nat.{ℕ}
-use lib.Dec.{eqb}
+use lib.Dec.{eqb, leb}
+use Rattle.refusals.specs.declared.Refusal.{Refusal}
+use Rattle.refusals.specs.declared.Refusal.the-variants.{WrongVersion, Unlisted}
 use Rattle.refusals.specs.declared.Outcome.{Outcome}
 use Rattle.refusals.specs.declared.Outcome.the-variants.{Accepted, Refused}
 use Rattle.refusals.specs.declared.Written.{Written}
@@ -25,6 +30,13 @@ use Rattle.hmac.specs.State as hmacState
 use Rattle.keys.specs.Kdbx4Keys as keys
 use Rattle.aes_kdf.specs.AesKdf as kdf
 use Rattle.aes_kdf.specs.declared.Transformed.{Transformed}
+use Rattle.argon2.specs.Rfc9106.{Inputs}
+use Rattle.argon2.specs.Run as argon2
+use Rattle.argon2.specs.declared.Kind.{Kind}
+use Rattle.argon2.specs.declared.Kind.the-variants.{Argon2d, Argon2id}
+use Rattle.kdf_dictionary.specs.declared.writer.Figures.{Figures}
+use Rattle.kdf_dictionary.specs.declared.writer.Figures.the-variants as figures
+use Rattle.outer_header.specs.declared.Header.{Header}
 use Rattle.outer_header.specs.declared.Reading.{Reading}
 use Rattle.outer_header.specs.Answers as headerAnswers
 use Rattle.dictionary.specs.declared.Found.{Found}
@@ -38,6 +50,8 @@ use Rattle.opening.specs.Steps.{stepOf}
 use Rattle.states.specs.Sha256State as sha256Bytes
 use Rattle.states.specs.Sha512State as sha512Bytes
 use Rattle.states.specs.OpenerState as openerBytes
+use Rattle.exports.specs.declared.vaults.Chosen.{Chosen}
+use Rattle.exports.specs.declared.vaults.Chosen.the-variants as chosenAs
 
 -- the result where the operation accepts, and the bytes that the array had where it refuses
 abbrev pub resultOr : Outcome → List ℕ → List ℕ → List ℕ
@@ -70,12 +84,35 @@ aesKdf composite seed rounds had =
 abbrev pub transformedOr : Transformed → List ℕ → List ℕ
 transformedOr t had = resultOr (t .outcome) (t .key) had
 
+-- which kind of Argon2 a KDF's number stands for: 1 Argon2d, 2 Argon2id
+abbrev pub argon2Kind : ℕ → Kind
+argon2Kind kdf = cond (eqb kdf 1) Argon2d Argon2id
+
+abbrev pub argon2Inputs : ℕ → List ℕ → List ℕ → ℕ → ℕ → ℕ → Inputs
+argon2Inputs kdf composite salt passes memory lanes =
+    argon2.vaultInputs (argon2Kind kdf) composite salt passes memory lanes
+
+-- 9 of another number, else the run's
+abbrev pub argon2Outcome : ℕ → Inputs → ℕ → ℕ → Outcome
+argon2Outcome kdf i memory words =
+    cond (eqb kdf 1 || eqb kdf 2) (argon2.outcome i memory words) (Refused Unlisted)
+
 -- an answer's values where its number is 0, and the figures that stood there where it is a refusal's
 abbrev pub figuresOr : ℕ → List ℕ → List ℕ → List ℕ
 figuresOr number values had = cond (eqb number 0) values had
 
 abbrev pub headerOr : Reading → List ℕ → List ℕ
 headerOr a had = figuresOr (headerAnswers.number a) (headerAnswers.values a) had
+
+-- the figures of a header, with its KDF's
+abbrev pub headerWith : Header → List ℕ → List ℕ
+headerWith h kdf =
+    h .minor ∷ headerAnswers.cipherNumber (h .cipher) ∷ h .length
+    ∷ h .seed .start ∷ h .seed .length
+    ∷ h .nonce .start ∷ h .nonce .length
+    ∷ h .«kdf_dictionary» .start ∷ h .«kdf_dictionary» .length
+    ∷ h .custom .start ∷ h .custom .length
+    ∷ kdf
 
 abbrev pub foundOr : Found → List ℕ → List ℕ
 foundOr a had = figuresOr (dictionaryAnswers.number a) (dictionaryAnswers.values a) had
@@ -105,3 +142,23 @@ stateOr q had = keptOr (ofWritten (q .answer .written)) (openerBytes.packed (q .
 -- given where the flag is not 0
 abbrev pub credential : ℕ → List ℕ → keys.Credential
 credential flag s = keys.credential (not (eqb flag 0)) s
+
+-- the KDF that a number and figures stand for: 0 AES-KDF, 1 Argon2d, 2 Argon2id
+abbrev pub chosen : ℕ → ℕ → ℕ → ℕ → Chosen
+chosen kdf rounds memory lanes =
+    cond (eqb kdf 0) (chosenAs.Figures (figures.AesKdf rounds))
+    (cond (eqb kdf 1) (chosenAs.Figures (figures.Argon2d rounds memory lanes))
+    (cond (eqb kdf 2) (chosenAs.Figures (figures.Argon2id rounds memory lanes)) chosenAs.Unlisted))
+
+-- another number: 9, in the cipher's place, behind 4
+abbrev pub unlistedKdf : ℕ → Refusal
+unlistedKdf minor = cond (leb minor 1) Unlisted WrongVersion
+
+-- the answer of a writing with the KDF, and what it writes
+abbrev pub answerBy : ℕ → Chosen → (Figures → Written) → Written
+answerBy minor (chosenAs.Figures k) w = w k
+answerBy minor chosenAs.Unlisted w = written.Refused (unlistedKdf minor)
+
+abbrev pub bytesBy : Chosen → (Figures → List ℕ) → List ℕ
+bytesBy (chosenAs.Figures k) w = w k
+bytesBy chosenAs.Unlisted w = []

@@ -1,16 +1,21 @@
-// The keys of a vault (document 01, "Keys"): the composite key, AES-KDF, and what T and the master seed give. The
-// contracts cite crate keys' specs/Kdbx4Keys, crate aes_kdf's specs/AesKdf and crate states' specs/AesKdfState.
-// Refusals: of the composite key 1 and 18, of the rounds 11, of T before the end 19.
+// The keys of a vault (document 01, "Keys"; document 02, Item 6): the composite key, AES-KDF, Argon2, and what T and the
+// master seed give. The contracts cite crate keys' specs/Kdbx4Keys, crate aes_kdf's specs/AesKdf, crate argon2's
+// specs/Run and crate states' specs/AesKdfState. Refusals: of the composite key 1 and 18, of the rounds 11, of T before
+// the end 19, of Argon2 9, 22 and 17.
 ghost use mathlib.Core.Path.{_≡_};
 ghost use Rattle.refusals.specs.Numbers as numbers;
 ghost use mathlib.Core.List.{_++_};
+ghost use lib.ListN.{length};
+ghost use Rattle.argon2.specs.Run as argon2;
 ghost use Rattle.aes_kdf.specs.AesKdf as kdf;
 ghost use Rattle.aes_kdf.specs.State as transformation;
 ghost use Rattle.states.specs.AesKdfState as kdfState;
 ghost use Rattle.keys.specs.Kdbx4Keys as kdbx4;
 ghost use Rattle.exports.specs.Lent as lent;
 use aes_kdf::Transformation;
+use argon2::Kind;
 use refusals::Outcome;
+use refusals::Refusal;
 use states::aes_kdf_state;
 
 // The composite key of a password, a key file or both, or a pre-hash. A credential is given where its flag is not 0.
@@ -134,6 +139,76 @@ pub extern "C" fn kdbx4_aes_kdf_finish(state: &[u8; 281], out: &mut [u8; 32]) ->
         return 0;
     }
     outcome.number()
+}
+
+// T by a kind of Argon2.
+fn run_argon2(
+    kind: Kind,
+    composite: &[u8; 32],
+    salt: &[u8],
+    passes: u64,
+    memory: u64,
+    lanes: u32,
+    words: &mut [u64],
+    out: &mut [u8; 32],
+) -> u8
+    ensures { λ r. ⌜ r ≡ numbers.ofOutcome (argon2.outcome (argon2.vaultInputs kind (now (composite .entry)) (now (salt .entry)) passes memory lanes) memory (length (now (words .entry)))) ⌝ }
+    ensures { λ _. ⌜ now (words .exit) ≡ argon2.left (argon2.outcome (argon2.vaultInputs kind (now (composite .entry)) (now (salt .entry)) passes memory lanes) memory (length (now (words .entry)))) (argon2.vaultInputs kind (now (composite .entry)) (now (salt .entry)) passes memory lanes) (now (words .entry)) ⌝ }
+    ensures { λ _. ⌜ now (out .exit) ≡ lent.resultOr (argon2.outcome (argon2.vaultInputs kind (now (composite .entry)) (now (salt .entry)) passes memory lanes) memory (length (now (words .entry)))) (argon2.transformedKey kind (now (composite .entry)) (now (salt .entry)) passes memory lanes) (now (out .entry)) ⌝ }
+{
+    let c = *composite;
+    let transformed = argon2::transform(kind, c, salt, passes, memory, lanes, words);
+    let outcome = transformed.outcome;
+    let key = transformed.key;
+    if let Outcome::Accepted = outcome {
+        *out = key;
+        return 0;
+    }
+    outcome.number()
+}
+
+// Argon2 in one call: the transformed key T of a composite key, a salt and its figures, in lent words. 1 is Argon2d, 2
+// Argon2id.
+#[no_mangle]
+pub extern "C" fn kdbx4_argon2(
+    kdf: u32,
+    composite: &[u8; 32],
+    salt: &[u8],
+    passes: u64,
+    memory: u64,
+    lanes: u32,
+    words: &mut [u64],
+    out: &mut [u8; 32],
+) -> u8
+    ensures { λ r. ⌜ r ≡ numbers.ofOutcome (lent.argon2Outcome kdf (lent.argon2Inputs kdf (now (composite .entry)) (now (salt .entry)) passes memory lanes) memory (length (now (words .entry)))) ⌝ }
+    ensures { λ _. ⌜ now (words .exit) ≡ argon2.left (lent.argon2Outcome kdf (lent.argon2Inputs kdf (now (composite .entry)) (now (salt .entry)) passes memory lanes) memory (length (now (words .entry)))) (lent.argon2Inputs kdf (now (composite .entry)) (now (salt .entry)) passes memory lanes) (now (words .entry)) ⌝ }
+    ensures { λ _. ⌜ now (out .exit) ≡ lent.resultOr (lent.argon2Outcome kdf (lent.argon2Inputs kdf (now (composite .entry)) (now (salt .entry)) passes memory lanes) memory (length (now (words .entry)))) (argon2.transformedKey (lent.argon2Kind kdf) (now (composite .entry)) (now (salt .entry)) passes memory lanes) (now (out .entry)) ⌝ }
+{
+    if kdf == 1 {
+        return run_argon2(
+            Kind::Argon2d,
+            composite,
+            salt,
+            passes,
+            memory,
+            lanes,
+            words,
+            out,
+        );
+    }
+    if kdf == 2 {
+        return run_argon2(
+            Kind::Argon2id,
+            composite,
+            salt,
+            passes,
+            memory,
+            lanes,
+            words,
+            out,
+        );
+    }
+    Refusal::Unlisted.number()
 }
 
 // The key of the payload's cipher, of a master seed and T.

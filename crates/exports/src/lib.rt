@@ -3,7 +3,7 @@
 //
 //   hashes          SHA-256 and SHA-512, whole and in parts, HMAC-SHA-256
 //   encryption      AES-256-CBC and ChaCha20, in place
-//   derivation      composite key, AES-KDF whole and in parts, cipher key, tag keys
+//   derivation      composite key, AES-KDF whole and in parts, Argon2, cipher key, tag keys
 //   header          the outer header, and its listing
 //   dictionaries    checking, and finding a name
 //   vaults          opening, whole and block by block, and writing, under the transformed key T

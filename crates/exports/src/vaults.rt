@@ -1,7 +1,7 @@
 // Vaults under the transformed key T (document 01, "File after the header"): opening whole, and block by block over a
 // state that is lent as bytes; writing. The contracts cite the definitions of crates vault, opening, states and writer.
-// Refusals: of opening 1 to 17, of the start 1 to 13, of a step 19, 1, 2, 5, 14 to 17, of writing 4, 9, 5, 11, 10 or 6,
-// 1, 17.
+// Refusals: of opening 1 to 17 and 22, of the start 1 to 13 and 22, of a step 19, 1, 2, 5, 14 to 17, of writing 4, 9, 5,
+// 11 or 22, 10 or 6, 1, 17.
 ghost use mathlib.Core.Path.{_≡_};
 ghost use lib.ListN.{length};
 ghost use Rattle.refusals.specs.Numbers as numbers;
@@ -11,8 +11,16 @@ ghost use Rattle.vault.specs.Vault as vault;
 ghost use Rattle.states.specs.OpenerState as openerState;
 ghost use Rattle.writer.specs.Written as kdbx4;
 ghost use Rattle.exports.specs.Lent as lent;
+use kdf_dictionary::writer::Figures;
+use refusals::Refusal;
 use refusals::Written;
 use states::opener_state;
+
+// The figures of a KDF, or that its number is not listed.
+enum Chosen {
+    Figures(Figures),
+    Unlisted,
+}
 
 // Opens a vault whole under the transformed key T: the payload over the front of `out`, and its length in `count`.
 #[no_mangle]
@@ -86,24 +94,57 @@ pub extern "C" fn kdbx4_step(
     }
 }
 
-// Writes a vault under the transformed key T: the file over the front of `out`, and its length in `count`.
-#[no_mangle]
-pub extern "C" fn kdbx4_write(
+// The figures of a KDF by its number: 0 is AES-KDF, 1 Argon2d, 2 Argon2id.
+fn choose(kdf: u32, rounds: u64, memory: u64, lanes: u32) -> Chosen
+    ensures { λ r. ⌜ r ≡ lent.chosen kdf rounds memory lanes ⌝ }
+{
+    if kdf == 0 {
+        return Chosen::Figures(Figures::AesKdf { rounds });
+    }
+    if kdf == 1 {
+        return Chosen::Figures(Figures::Argon2d {
+            passes: rounds,
+            memory,
+            lanes,
+        });
+    }
+    if kdf == 2 {
+        return Chosen::Figures(Figures::Argon2id {
+            passes: rounds,
+            memory,
+            lanes,
+        });
+    }
+    Chosen::Unlisted
+}
+
+// The refusal of a KDF that is not listed: the version is looked at before it.
+fn unlisted(minor: u16) -> u8
+    ensures { λ r. ⌜ r ≡ numbers.ofRefusal (lent.unlistedKdf minor) ⌝ }
+{
+    if 1 < minor {
+        return Refusal::WrongVersion.number();
+    }
+    Refusal::Unlisted.number()
+}
+
+// Writes a vault with the figures of its KDF.
+fn write_with(
     minor: u16,
     cipher: &[u8],
     seed: &[u8],
     nonce: &[u8],
-    kdf_seed: &[u8],
-    rounds: u64,
+    figures: Figures,
+    salt: &[u8],
     custom: &[u8],
     t: &[u8; 32],
     payload: &[u8],
     out: &mut [u8],
     count: &mut usize,
 ) -> u8
-    ensures { λ r. ⌜ r ≡ numbers.ofWritten (kdbx4.writing (kdbx4.figures minor (now (cipher .entry)) (now (seed .entry)) (now (nonce .entry)) (now («kdf_seed» .entry)) rounds (now (custom .entry))) (now (t .entry)) (now (payload .entry)) (length (now (out .entry)))) ⌝ }
-    ensures { λ _. ⌜ now (out .exit) ≡ over (kdbx4.shown (kdbx4.figures minor (now (cipher .entry)) (now (seed .entry)) (now (nonce .entry)) (now («kdf_seed» .entry)) rounds (now (custom .entry))) (now (t .entry)) (now (payload .entry)) (length (now (out .entry)))) (now (out .entry)) ⌝ }
-    ensures { λ _. ⌜ now (count .exit) ≡ lent.countOr (kdbx4.writing (kdbx4.figures minor (now (cipher .entry)) (now (seed .entry)) (now (nonce .entry)) (now («kdf_seed» .entry)) rounds (now (custom .entry))) (now (t .entry)) (now (payload .entry)) (length (now (out .entry)))) (now (count .entry)) ⌝ }
+    ensures { λ r. ⌜ r ≡ numbers.ofWritten (kdbx4.writing (kdbx4.figures minor (now (cipher .entry)) (now (seed .entry)) (now (nonce .entry)) figures (now (salt .entry)) (now (custom .entry))) (now (t .entry)) (now (payload .entry)) (length (now (out .entry)))) ⌝ }
+    ensures { λ _. ⌜ now (out .exit) ≡ over (kdbx4.shown (kdbx4.figures minor (now (cipher .entry)) (now (seed .entry)) (now (nonce .entry)) figures (now (salt .entry)) (now (custom .entry))) (now (t .entry)) (now (payload .entry)) (length (now (out .entry)))) (now (out .entry)) ⌝ }
+    ensures { λ _. ⌜ now (count .exit) ≡ lent.countOr (kdbx4.writing (kdbx4.figures minor (now (cipher .entry)) (now (seed .entry)) (now (nonce .entry)) figures (now (salt .entry)) (now (custom .entry))) (now (t .entry)) (now (payload .entry)) (length (now (out .entry)))) (now (count .entry)) ⌝ }
 {
     let key = *t;
     let answer = writer::write(
@@ -111,8 +152,8 @@ pub extern "C" fn kdbx4_write(
         cipher,
         seed,
         nonce,
-        kdf_seed,
-        rounds,
+        figures,
+        salt,
         custom,
         key,
         payload,
@@ -124,5 +165,46 @@ pub extern "C" fn kdbx4_write(
             return 0;
         }
         Written::Refused(r) => return r.number(),
+    }
+}
+
+// Writes a vault under the transformed key T: the file over the front of `out`, and its length in `count`. `rounds` are
+// those of AES-KDF, or Argon2's passes; `memory` and `lanes` are Argon2's.
+#[no_mangle]
+pub extern "C" fn kdbx4_write(
+    minor: u16,
+    cipher: &[u8],
+    seed: &[u8],
+    nonce: &[u8],
+    kdf: u32,
+    salt: &[u8],
+    rounds: u64,
+    memory: u64,
+    lanes: u32,
+    custom: &[u8],
+    t: &[u8; 32],
+    payload: &[u8],
+    out: &mut [u8],
+    count: &mut usize,
+) -> u8
+    ensures { λ r. ⌜ r ≡ numbers.ofWritten (lent.answerBy minor (lent.chosen kdf rounds memory lanes) (λ k. kdbx4.writing (kdbx4.figures minor (now (cipher .entry)) (now (seed .entry)) (now (nonce .entry)) k (now (salt .entry)) (now (custom .entry))) (now (t .entry)) (now (payload .entry)) (length (now (out .entry))))) ⌝ }
+    ensures { λ _. ⌜ now (out .exit) ≡ over (lent.bytesBy (lent.chosen kdf rounds memory lanes) (λ k. kdbx4.shown (kdbx4.figures minor (now (cipher .entry)) (now (seed .entry)) (now (nonce .entry)) k (now (salt .entry)) (now (custom .entry))) (now (t .entry)) (now (payload .entry)) (length (now (out .entry))))) (now (out .entry)) ⌝ }
+    ensures { λ _. ⌜ now (count .exit) ≡ lent.countOr (lent.answerBy minor (lent.chosen kdf rounds memory lanes) (λ k. kdbx4.writing (kdbx4.figures minor (now (cipher .entry)) (now (seed .entry)) (now (nonce .entry)) k (now (salt .entry)) (now (custom .entry))) (now (t .entry)) (now (payload .entry)) (length (now (out .entry))))) (now (count .entry)) ⌝ }
+{
+    match choose(kdf, rounds, memory, lanes) {
+        Chosen::Unlisted => return unlisted(minor),
+        Chosen::Figures(figures) => return write_with(
+            minor,
+            cipher,
+            seed,
+            nonce,
+            figures,
+            salt,
+            custom,
+            t,
+            payload,
+            out,
+            count,
+        ),
     }
 }

@@ -20,17 +20,19 @@ use Rattle.words.specs.Endian.{le, leBytes}
 use Rattle.words.proofs.Laws.Cases.{by-bool}
 use Rattle.slices.proofs.Laws.Parts.{part-front}
 use Rattle.refusals.specs.declared.Outcome.the-variants as outcome
-use Rattle.refusals.specs.Limits.{fileLimit, roundsLimit}
+use Rattle.refusals.specs.Limits.{fileLimit, argon2Fits}
+use Rattle.refusals.proofs.Laws.Limits.{argon2Fits-bounds}
 use Rattle.fields.specs.Fields.{bytesAt, fits, fieldBytes, nowhere}
 use Rattle.fields.specs.declared.Place.{Place}
 use Rattle.ciphers.specs.Ciphers.{identifier, cipherOf, nonceLength}
 use Rattle.ciphers.specs.declared.Cipher.{Cipher}
 use Rattle.ciphers.proofs.Laws.{cipherOf-identifier, nonceLength-le}
-use Rattle.kdf_dictionary.specs.Kdf.{kdfBytes}
-use Rattle.kdf_dictionary.proofs.Laws.Kdf.{kdfBytes-seed-is}
+use Rattle.kdf_dictionary.specs.Kdf.{kdfBytes, kdfLength, IsWritable, writtenKdf}
+use Rattle.kdf_dictionary.specs.declared.writer.Figures.{Figures}
+use Rattle.kdf_dictionary.specs.declared.writer.Figures.the-variants as figures
 use Rattle.kdf_dictionary.specs.KdfDictionary.{kdfOf}
 use Rattle.kdf_dictionary.specs.declared.Reading.the-variants as kdf
-use Rattle.kdf_dictionary.proofs.Laws.ReadBack.{kdfOf-kdfBytes}
+use Rattle.kdf_dictionary.proofs.Laws.ReadBack.{kdfOf-kdfBytes, saltAt, kdfBytes-salt-is}
 use Rattle.outer_header.specs.declared.walk.Fields.{Fields}
 use Rattle.outer_header.specs.declared.walk.Walked.the-variants as walked
 use Rattle.outer_header.specs.declared.Reading.the-variants as read
@@ -48,7 +50,7 @@ use Rattle.outer_header.specs.Kdbx4Header.{
 }
 use Rattle.outer_header.proofs.Laws.Accepted.{accepts-header, accepts-judged}
 use Rattle.header_writer.specs.Written.{noCompression, headerBytes, headerLength, customVerdict, checked}
-use Rattle.header_writer.specs.ReadsBack.{customPlace, writtenHeader, ReadsBack}
+use Rattle.header_writer.specs.ReadsBack.{kdfPlace, customPlace, saltPlace, writtenHeader, ReadsBack}
 use Rattle.header_writer.specs.declared.Checked.the-variants.{As}
 use Rattle.header_writer.proofs.Laws.Layout.{length-headerBytes}
 use Rattle.header_writer.proofs.Laws.CheckedLaws.{checked-as}
@@ -56,14 +58,14 @@ use Rattle.header_writer.proofs.Laws.Lies.{bytesAt-lies, le-lies, walk-
 use Rattle.header_writer.proofs.Laws.Places.{HasFields, header-fields}
 
 -- the places of the fields, with the custom dictionary at p
-abbrev fieldsWith : Cipher → Place → Fields
-fieldsWith c p =
+abbrev fieldsWith : Cipher → ℕ → Place → Fields
+fieldsWith c kl p =
     record {
       cipher = record { start = 17; length = 16 };
       compression = record { start = 38; length = 4 };
       seed = record { start = 47; length = 32 };
       nonce = record { start = 84; length = nonceLength c };
-      kdf = record { start = 89 + nonceLength c; length = 93 };
+      kdf = record { start = 89 + nonceLength c; length = kl };
       custom = p;
     }
 
@@ -74,32 +76,64 @@ part-part s t a b i m n e h g =
     ap (λ (j : ℕ). take n (drop j s)) (sym g) ∙ ap (λ (x : List ℕ). take n x) (sym (drop-drop i a s))
     ∙ sym (part-front m i n (drop a s) h) ∙ ap (λ (x : List ℕ). take n (drop i x)) e
 
-headerLength-none : (c : Cipher) (n : ℕ) → eqb n 0 ≡ true → headerLength c n ≡ 191 + nonceLength c
-unfolding headerLength
-headerLength-none c n t = rw t (omega arith)
+module _ (c : Cipher) (fig : Figures) (m n : ℕ) where
+  headerLength-none : eqb n 0 ≡ true → headerLength c fig m n ≡ 98 + nonceLength c + kdfLength fig m
+  unfolding headerLength
+  headerLength-none t = rw t (omega arith)
 
-headerLength-custom : (c : Cipher) (n : ℕ) → eqb n 0 ≡ false → headerLength c n ≡ 196 + nonceLength c + n
-unfolding headerLength
-headerLength-custom c n t = rw t (omega arith)
+  headerLength-custom : eqb n 0 ≡ false → headerLength c fig m n ≡ 103 + nonceLength c + kdfLength fig m + n
+  unfolding headerLength
+  headerLength-custom t = rw t (omega arith)
 
-headerLength-ge : (c : Cipher) (n : ℕ) → 191 ≤ headerLength c n
-unfolding headerLength
-headerLength-ge c n = omega arith
+  headerLength-ge : 98 ≤ headerLength c fig m n
+  unfolding headerLength
+  headerLength-ge = omega arith
+
+-- where the seed or salt stands in the dictionary
+saltPlace-is : (fig : Figures) (p : Place) (n : ℕ)
+    → saltPlace (writtenKdf fig p n) ≡ record { start = p .start + saltAt fig; length = n }
+saltPlace-is (figures.AesKdf rounds) p n = refl
+saltPlace-is (figures.Argon2d passes memory lanes) p n = refl
+saltPlace-is (figures.Argon2id passes memory lanes) p n = refl
+
+saltAt-le : (fig : Figures) (n : ℕ) → saltAt fig + n ≤ kdfLength fig n
+unfolding kdfLength
+saltAt-le (figures.AesKdf rounds) n = omega arith
+saltAt-le (figures.Argon2d passes memory lanes) n = omega arith
+saltAt-le (figures.Argon2id passes memory lanes) n = omega arith
+
+-- what the writer takes has a dictionary of at most 171 bytes
+writable-le : (fig : Figures) (n : ℕ) → IsWritable fig n → kdfLength fig n ≤ 171
+unfolding IsWritable kdfLength
+writable-le (figures.AesKdf rounds) n h = let e = h .0 in omega arith
+writable-le (figures.Argon2d passes memory lanes) n h =
+    let b = argon2Fits-bounds n passes memory lanes h .salt-most in omega (arith, b)
+writable-le (figures.Argon2id passes memory lanes) n h =
+    let b = argon2Fits-bounds n passes memory lanes h .salt-most in omega (arith, b)
 
 no-bytes : (s : List ℕ) → length s ≡ 0 → [] ≡ s
 no-bytes [] e = refl
 no-bytes (x ∷ s) e = absurd (omega arith)
 
-complete-fields : (c : Cipher) (p : Place) → complete (fieldsWith c p) ≡ true
+complete-fields : (c : Cipher) (kl : ℕ) (p : Place) → complete (fieldsWith c kl p) ≡ true
 unfolding complete
-complete-fields c p = rw (ne-eqb (89 + nonceLength c) 0 (λ e. omega arith))
+complete-fields c kl p = rw (ne-eqb (89 + nonceLength c) 0 (λ e. omega arith))
 
 -- a file that begins as a written header does
-module _ (minor : ℕ) (c : Cipher) (seed nonce kdfSeed : List ℕ) (rounds : ℕ) (custom s : List ℕ)
-    (w : HasFields minor c seed nonce (kdfBytes kdfSeed rounds) custom s) where
+module _ (minor : ℕ) (c : Cipher) (seed nonce : List ℕ) (fig : Figures) (salt custom s : List ℕ)
+    (w : HasFields minor c seed nonce (kdfBytes fig salt) custom s (kdfLength fig (length salt)))
+    (small : kdfLength fig (length salt) ≤ 171) where
+  -- how many bytes the KDF dictionary has
+  abbrev kl : ℕ
+  kl = kdfLength fig (length salt)
+
+  at-least : headerLength c fig (length salt) (length custom) ≤ length s
+  unfolding headerLength
+  at-least = w .long
+
   -- the five fields that every header has
   walk-front : (k : ℕ) → 7 ≤ k
-      → walk k noFields s 12 ≡ walk (k - 1 - 1 - 1 - 1 - 1) (fieldsWith c nowhere) s (182 + nonceLength c)
+      → walk k noFields s 12 ≡ walk (k - 1 - 1 - 1 - 1 - 1) (fieldsWith c kl nowhere) s (89 + nonceLength c + kl)
   unfolding listed seen put noFields sizeRule fits
   walk-front k h =
       let n : nonceLength c ≤ 16 = nonceLength-le c in
@@ -111,131 +145,130 @@ module _ (minor : ℕ) (c : Cipher) (seed nonce kdfSeed : List ℕ) (rounds : �
       (λ e. omega arith) refl
       ∙ walk-lies s 79 7 nonce _ (w .nonce-lies) _ refl refl refl (omega arith) (k - 1 - 1 - 1) (84 + nonceLength c)
       (omega arith) (λ e. omega arith) refl
-      ∙ walk-lies s (84 + nonceLength c) 11 (kdfBytes kdfSeed rounds) _ (w .kdf-lies) _ refl refl refl (omega arith)
-      (k - 1 - 1 - 1 - 1) (182 + nonceLength c) (omega arith) (λ e. omega arith) (omega arith)
+      ∙ walk-lies s (84 + nonceLength c) 11 (kdfBytes fig salt) _ (w .kdf-lies) _ refl refl refl (omega arith)
+      (k - 1 - 1 - 1 - 1) (89 + nonceLength c + kl) (omega arith) (λ e. omega arith) (omega arith)
 
   walk-none : eqb (length custom) 0 ≡ true
-      → walk (length s) noFields s 12 ≡ walked.Ended (fieldsWith c nowhere) (headerLength c (length custom))
+      → walk (length s) noFields s 12 ≡ walked.Ended (fieldsWith c kl nowhere) (headerLength c fig (length salt) (length custom))
   walk-none t =
-      let e = headerLength-none c (length custom) t in
-      let l = w .long in
+      let e = headerLength-none c fig (length salt) (length custom) t in
+      let l = at-least in
       walk-front (length s) (omega arith)
-      ∙ walk-end s (182 + nonceLength c) _ (fieldsWith c nowhere) (length s - 1 - 1 - 1 - 1 - 1)
-      (headerLength c (length custom)) (w .end-lies t) (omega arith) (omega arith)
+      ∙ walk-end s (89 + nonceLength c + kl) _ (fieldsWith c kl nowhere) (length s - 1 - 1 - 1 - 1 - 1)
+      (headerLength c fig (length salt) (length custom)) (w .end-lies t) (omega arith) (omega arith)
 
   walk-custom : length s ≤ fileLimit → eqb (length custom) 0 ≡ false
       → walk (length s) noFields s 12
-      ≡ walked.Ended (fieldsWith c (record { start = 187 + nonceLength c; length = length custom }))
-      (headerLength c (length custom))
+      ≡ walked.Ended (fieldsWith c kl (record { start = 94 + nonceLength c + kl; length = length custom }))
+      (headerLength c fig (length salt) (length custom))
   unfolding listed seen put sizeRule fits fileLimit
   walk-custom h t =
-      let e = headerLength-custom c (length custom) t in
-      let l = w .long in
+      let e = headerLength-custom c fig (length salt) (length custom) t in
+      let l = at-least in
       walk-front (length s) (omega arith)
-      ∙ walk-lies s (182 + nonceLength c) 12 custom _ (w .custom-lies t) (fieldsWith c nowhere) refl refl refl
-      (omega (arith, h)) (length s - 1 - 1 - 1 - 1 - 1) (187 + nonceLength c + length custom) (omega arith)
+      ∙ walk-lies s (89 + nonceLength c + kl) 12 custom _ (w .custom-lies t) (fieldsWith c kl nowhere) refl refl refl
+      (omega (arith, h)) (length s - 1 - 1 - 1 - 1 - 1) (94 + nonceLength c + kl + length custom) (omega arith)
       (λ z. omega arith) refl
-      ∙ walk-end s (187 + nonceLength c + length custom) _ _ (length s - 1 - 1 - 1 - 1 - 1 - 1)
-      (headerLength c (length custom)) (w .custom-end-lies t) (omega arith) (omega arith)
+      ∙ walk-end s (94 + nonceLength c + kl + length custom) _ _ (length s - 1 - 1 - 1 - 1 - 1 - 1)
+      (headerLength c fig (length salt) (length custom)) (w .custom-end-lies t) (omega arith) (omega arith)
 
   walk-written : length s ≤ fileLimit
       → walk (length s) noFields s 12
-      ≡ walked.Ended (fieldsWith c (customPlace c (length custom))) (headerLength c (length custom))
+      ≡ walked.Ended (fieldsWith c kl (customPlace c fig (length salt) (length custom))) (headerLength c fig (length salt) (length custom))
   walk-written h =
       by-bool (eqb (length custom) 0) (λ t. rw t (walk-none t)) (λ t. rw t (walk-custom h t))
 
   -- the custom dictionary's bytes, and the reader's judgement of it
-  custom-bytes : bytesAt s (customPlace c (length custom)) ≡ custom
+  custom-bytes : bytesAt s (customPlace c fig (length salt) (length custom)) ≡ custom
   custom-bytes =
       by-bool (eqb (length custom) 0)
       (λ t. rw t (no-bytes custom (eqb-true (length custom) 0 t)))
-      (λ t. rw t (bytesAt-lies s (182 + nonceLength c) 12 custom _ (w .custom-lies t)))
+      (λ t. rw t (bytesAt-lies s (89 + nonceLength c + kl) 12 custom _ (w .custom-lies t)))
 
   custom-judged : customVerdict custom ≡ outcome.Accepted
-      → customOf s (customPlace c (length custom)) ≡ outcome.Accepted
+      → customOf s (customPlace c fig (length salt) (length custom)) ≡ outcome.Accepted
   unfolding customVerdict customOf
   custom-judged =
       by-bool (eqb (length custom) 0)
       (λ t. rw t (λ v. refl))
-      (λ t. let b = bytesAt-lies s (182 + nonceLength c) 12 custom _ (w .custom-lies t) in
-      rw (t, ne-eqb (187 + nonceLength c) 0 (λ e. omega arith), b) (λ v. v))
+      (λ t. let b = bytesAt-lies s (89 + nonceLength c + kl) 12 custom _ (w .custom-lies t) in
+      rw (t, ne-eqb (94 + nonceLength c + kl) 0 (λ e. omega arith), b) (λ v. v))
 
-  kdf-bytes : bytesAt s (record { start = 89 + nonceLength c; length = 93 }) ≡ kdfBytes kdfSeed rounds
-  kdf-bytes = bytesAt-lies s (84 + nonceLength c) 11 (kdfBytes kdfSeed rounds) _ (w .kdf-lies)
+  kdf-bytes : bytesAt s (kdfPlace c fig (length salt)) ≡ kdfBytes fig salt
+  kdf-bytes = bytesAt-lies s (84 + nonceLength c) 11 (kdfBytes fig salt) _ (w .kdf-lies)
 
-  kdf-seed-bytes : length kdfSeed ≡ 32 → bytesAt s (record { start = 149 + nonceLength c; length = 32 }) ≡ kdfSeed
-  kdf-seed-bytes l =
-      part-part s (kdfBytes kdfSeed rounds) (89 + nonceLength c) (149 + nonceLength c) 60 93 32 kdf-bytes (omega arith)
-      (omega arith)
-      ∙ kdfBytes-seed-is kdfSeed rounds l
+  salt-bytes : IsWritable fig (length salt) → bytesAt s (saltPlace (writtenKdf fig (kdfPlace c fig (length salt)) (length salt))) ≡ salt
+  salt-bytes h =
+      ap (λ (q : Place). bytesAt s q) (saltPlace-is fig (kdfPlace c fig (length salt)) (length salt))
+      ∙ part-part s (kdfBytes fig salt) (89 + nonceLength c) (89 + nonceLength c + saltAt fig) (saltAt fig) kl
+      (length salt) kdf-bytes (saltAt-le fig (length salt)) refl
+      ∙ kdfBytes-salt-is fig salt h
 
   no-compression : le 4 s 38 ≡ 0
   unfolding le leBytes fieldBytes
   no-compression = le-lies s 33 3 noCompression _ (w .compression-lies) 4 0 (omega arith)
 
-  module _ (seed-long : length kdfSeed ≡ 32) (few : rounds ≤ roundsLimit)
+  module _ (writable : IsWritable fig (length salt))
       (sound : customVerdict custom ≡ outcome.Accepted) where
-    kdf-asks : kdfOf s (record { start = 89 + nonceLength c; length = 93 })
-        ≡ kdf.Asks (record { seed = record { start = 149 + nonceLength c; length = 32 }; rounds = rounds })
-    kdf-asks =
-        let e : 89 + nonceLength c + 60 ≡ 149 + nonceLength c = omega arith in
-        kdfOf-kdfBytes kdfSeed rounds seed-long few s (record { start = 89 + nonceLength c; length = 93 }) kdf-bytes
-        ∙ ap (λ (n : ℕ). kdf.Asks (record { seed = record { start = n; length = 32 }; rounds = rounds })) e
+    kdf-asks : kdfOf s (kdfPlace c fig (length salt))
+        ≡ kdf.Asks (writtenKdf fig (kdfPlace c fig (length salt)) (length salt))
+    kdf-asks = kdfOf-kdfBytes fig salt s (kdfPlace c fig (length salt)) writable kdf-bytes
 
-    judged-written : judged s (fieldsWith c (customPlace c (length custom))) minor (headerLength c (length custom))
-        ≡ read.Header (writtenHeader minor c rounds (length custom))
+    judged-written : judged s (fieldsWith c kl (customPlace c fig (length salt) (length custom))) minor (headerLength c fig (length salt) (length custom))
+        ≡ read.Header (writtenHeader minor c fig (length salt) (length custom))
     judged-written =
         let i : bytesAt s (record { start = 17; length = 16 }) ≡ identifier c =
         bytesAt-lies s 12 2 (identifier c) _ (w .cipher-lies) in
-        accepts-judged s (fieldsWith c (customPlace c (length custom))) minor (headerLength c (length custom)) c
-        (record { seed = record { start = 149 + nonceLength c; length = 32 }; rounds = rounds })
-        (complete-fields c (customPlace c (length custom))) (ap cipherOf i ∙ cipherOf-identifier c) no-compression refl
+        accepts-judged s (fieldsWith c kl (customPlace c fig (length salt) (length custom))) minor (headerLength c fig (length salt) (length custom)) c
+        (writtenKdf fig (kdfPlace c fig (length salt)) (length salt))
+        (complete-fields c kl (customPlace c fig (length salt) (length custom))) (ap cipherOf i ∙ cipherOf-identifier c) no-compression refl
         kdf-asks (custom-judged sound)
 
     header-written : minor ≤ 1 → length s ≤ fileLimit
-        → header s ≡ read.Header (writtenHeader minor c rounds (length custom))
+        → header s ≡ read.Header (writtenHeader minor c fig (length salt) (length custom))
     header-written m f =
-        let l = w .long in
-        let n = headerLength-ge c (length custom) in
-        accepts-header s (writtenHeader minor c rounds (length custom)) (record {
+        let l = at-least in
+        let n = headerLength-ge c fig (length salt) (length custom) in
+        accepts-header s (writtenHeader minor c fig (length salt) (length custom)) (record {
           fits = f;
           long = omega arith;
           first-is = w .first-is;
           second-is = w .second-is;
           minor-le = m;
           version-is = w .version-is;
-          fields = fieldsWith c (customPlace c (length custom));
+          fields = fieldsWith c kl (customPlace c fig (length salt) (length custom));
           walk-is = walk-written f;
           judged-is = judged-written;
         })
 
 -- figures that pass the writer's checks are read back
-pub header-read-back : (minor : ℕ) (id seed nonce kdfSeed : List ℕ) (rounds : ℕ) (custom : List ℕ) (c : Cipher)
+pub header-read-back : (minor : ℕ) (id seed nonce : List ℕ) (fig : Figures) (salt custom : List ℕ) (c : Cipher)
     (rest : List ℕ)
-    → checked minor id seed nonce kdfSeed rounds custom ≡ As c
-    → length (headerBytes minor c seed nonce kdfSeed rounds custom ++ rest) ≤ fileLimit
-    → ReadsBack minor c seed nonce kdfSeed rounds custom (headerBytes minor c seed nonce kdfSeed rounds custom ++ rest)
-    (writtenHeader minor c rounds (length custom))
-header-read-back minor id seed nonce kdfSeed rounds custom c rest e f =
-    let k = checked-as minor id seed nonce kdfSeed rounds custom c e in
-    let s = headerBytes minor c seed nonce kdfSeed rounds custom ++ rest in
-    let w = header-fields minor c seed nonce kdfSeed rounds custom rest s refl (k .seed-long) (k .nonce-long)
-    (k .kdf-seed-long) (k .minor-le) in
+    → checked minor id seed nonce fig salt custom ≡ As c
+    → length (headerBytes minor c seed nonce fig salt custom ++ rest) ≤ fileLimit
+    → ReadsBack minor c seed nonce fig salt custom (headerBytes minor c seed nonce fig salt custom ++ rest)
+    (writtenHeader minor c fig (length salt) (length custom))
+header-read-back minor id seed nonce fig salt custom c rest e f =
+    let k = checked-as minor id seed nonce fig salt custom c e in
+    let s = headerBytes minor c seed nonce fig salt custom ++ rest in
+    let w = header-fields minor c seed nonce fig salt custom rest s refl (k .seed-long) (k .nonce-long)
+    (k .minor-le) in
+    let m = writable-le fig (length salt) (k .writable) in
     record {
       header-is =
-          header-written minor c seed nonce kdfSeed rounds custom s w (k .kdf-seed-long) (k .rounds-le)
+          header-written minor c seed nonce fig salt custom s w m (k .writable)
           (k .custom-sound) (k .minor-le) f;
       minor-is = refl;
       cipher-is = refl;
-      rounds-is = refl;
+      kdf-is = refl;
       seed-is = bytesAt-lies s 42 4 seed _ (w .seed-lies);
       nonce-is = bytesAt-lies s 79 7 nonce _ (w .nonce-lies);
-      dictionary-is = kdf-bytes minor c seed nonce kdfSeed rounds custom s w;
-      kdf-seed-is = kdf-seed-bytes minor c seed nonce kdfSeed rounds custom s w (k .kdf-seed-long);
-      custom-is = custom-bytes minor c seed nonce kdfSeed rounds custom s w;
+      dictionary-is = kdf-bytes minor c seed nonce fig salt custom s w m;
+      salt-is = salt-bytes minor c seed nonce fig salt custom s w m (k .writable);
+      custom-is = custom-bytes minor c seed nonce fig salt custom s w m;
       length-is =
           sym
-          (length-headerBytes minor c seed nonce kdfSeed rounds custom (k .seed-long) (k .kdf-seed-long)
+          (length-headerBytes minor c seed nonce fig salt custom (k .seed-long)
           (k .nonce-long));
       length-told = refl;
     }

@@ -6,21 +6,23 @@
 --   listed-lines                 the 4.1 ChaCha20 header with R = 1, seeds of bytes 11 and 33, nonce of bytes 22
 --   checked-listed, checked-custom    its figures may be written, also with an empty custom dictionary
 --   checked-most, checked-more   "Rounds 4,000,000 pass, 4,000,001 give 11"
+--   checked-salt, checked-salt-short    document 02, Item 6: a salt of 8 bytes passes, of 7 gives 22
 -- Assumes nothing.
-use mathlib.Core.Path.{_≡_, refl}
+use mathlib.Core.Path.{_≡_, refl, _∙_}
 use mathlib.Core.List.{List, [], _∷_, _++_}
 use Prim.Native.Nat.{ℕ}
 use lib.ListN.{length, replicate}
 use Rattle.words.specs.Endian.{leBytes}
 use Rattle.slices.specs.Same.{same}
-use Rattle.refusals.specs.declared.Refusal.the-variants.{TooManyRounds}
-use Rattle.refusals.specs.Limits.{roundsLimit}
+use Rattle.refusals.specs.declared.Refusal.the-variants.{TooManyRounds, FigureOutside}
+use Rattle.refusals.specs.Limits.{roundsLimit, argon2Fits}
 use Rattle.fields.specs.Fields.{fieldBytes}
 use Rattle.ciphers.specs.Ciphers.{identifier, cipherOf, nonceLength}
 use Rattle.ciphers.specs.declared.Cipher.the-variants.{Aes256, ChaCha20}
 use Rattle.dictionary.specs.Dictionary.{entryAt, walkIn, walk, verdict, itemBytes}
-use Rattle.kdf_dictionary.specs.Kdf.{kdfBytes}
-use Rattle.kdf_dictionary.proofs.Laws.Kdf.{length-kdfBytes}
+use Rattle.kdf_dictionary.specs.Kdf.{kdfBytes, aesKdfBytes, kdfLength}
+use Rattle.kdf_dictionary.specs.declared.writer.Figures.the-variants as figures
+use Rattle.kdf_dictionary.proofs.Laws.Layout.{length-kdfBytes}
 use Rattle.header_writer.specs.Written.{
   versionBytes,
   customField,
@@ -28,6 +30,8 @@ use Rattle.header_writer.specs.Written.{
   headerLength,
   customVerdict,
   checkedCustom,
+  saltSized,
+  checkedFigures,
   checkedSizes,
   checkedCipher,
   checked,
@@ -38,16 +42,21 @@ use Rattle.header_writer.proofs.Laws.Layout.{length-headerBytes}
 
 module _ (minor : ℕ) (seed nonce kdfSeed : List ℕ) (rounds : ℕ) (seed-long : length seed ≡ 32)
     (kdf-seed-long : length kdfSeed ≡ 32) where
-  pub length-aes : length nonce ≡ 16 → length (headerBytes minor Aes256 seed nonce kdfSeed rounds []) ≡ 207
-  unfolding headerLength nonceLength
-  length-aes n = length-headerBytes minor Aes256 seed nonce kdfSeed rounds [] seed-long kdf-seed-long n
+  pub length-kdf : length (kdfBytes (figures.AesKdf rounds) kdfSeed) ≡ 93
+  unfolding kdfLength
+  length-kdf = length-kdfBytes (figures.AesKdf rounds) kdfSeed ∙ rw kdf-seed-long
 
-  pub length-chacha : length nonce ≡ 12 → length (headerBytes minor ChaCha20 seed nonce kdfSeed rounds []) ≡ 203
-  unfolding headerLength nonceLength
-  length-chacha n = length-headerBytes minor ChaCha20 seed nonce kdfSeed rounds [] seed-long kdf-seed-long n
+  pub length-aes : length nonce ≡ 16
+      → length (headerBytes minor Aes256 seed nonce (figures.AesKdf rounds) kdfSeed []) ≡ 207
+  unfolding headerLength nonceLength kdfLength
+  length-aes n =
+      length-headerBytes minor Aes256 seed nonce (figures.AesKdf rounds) kdfSeed [] seed-long n ∙ rw kdf-seed-long
 
-  pub length-kdf : length (kdfBytes kdfSeed rounds) ≡ 93
-  length-kdf = length-kdfBytes kdfSeed rounds kdf-seed-long
+  pub length-chacha : length nonce ≡ 12
+      → length (headerBytes minor ChaCha20 seed nonce (figures.AesKdf rounds) kdfSeed []) ≡ 203
+  unfolding headerLength nonceLength kdfLength
+  length-chacha n =
+      length-headerBytes minor ChaCha20 seed nonce (figures.AesKdf rounds) kdfSeed [] seed-long n ∙ rw kdf-seed-long
 
 -- the seven lines, byte by byte
 abbrev listedLines : List ℕ
@@ -70,27 +79,41 @@ listedLines =
     0x33 ∷ 0x00 ∷ [])
     ++ (0x00 ∷ 0x04 ∷ 0x00 ∷ 0x00 ∷ 0x00 ∷ 0x0D ∷ 0x0A ∷ 0x0D ∷ 0x0A ∷ [])
 
-pub listed-lines : headerBytes 1 ChaCha20 (replicate 32 0x11) (replicate 12 0x22) (replicate 32 0x33) 1 [] ≡ listedLines
-unfolding headerBytes versionBytes customField fieldBytes kdfBytes itemBytes leBytes identifier
+pub listed-lines : headerBytes 1 ChaCha20 (replicate 32 0x11) (replicate 12 0x22) (figures.AesKdf 1) (replicate 32 0x33) []
+    ≡ listedLines
+unfolding headerBytes versionBytes customField fieldBytes kdfBytes aesKdfBytes itemBytes leBytes identifier
 listed-lines = refl
 
 -- what the writer says to these figures
 abbrev listedChecked : ℕ → List ℕ → Checked
 listedChecked rounds custom =
-    checked 1 (identifier ChaCha20) (replicate 32 0x11) (replicate 12 0x22) (replicate 32 0x33) rounds custom
+    checked 1 (identifier ChaCha20) (replicate 32 0x11) (replicate 12 0x22) (figures.AesKdf rounds) (replicate 32 0x33) custom
 
 pub checked-listed : listedChecked 1 [] ≡ As ChaCha20
-unfolding checked checkedCipher checkedSizes checkedCustom customVerdict cipherOf identifier nonceLength same roundsLimit
+unfolding checked checkedCipher checkedSizes saltSized checkedFigures checkedCustom customVerdict cipherOf identifier nonceLength same roundsLimit
 checked-listed = refl
 
 pub checked-custom : listedChecked 1 (0x00 ∷ 0x01 ∷ 0x00 ∷ []) ≡ As ChaCha20
-unfolding checked checkedCipher checkedSizes checkedCustom customVerdict cipherOf identifier nonceLength same roundsLimit verdict walk walkIn entryAt
+unfolding checked checkedCipher checkedSizes saltSized checkedFigures checkedCustom customVerdict cipherOf identifier nonceLength same roundsLimit verdict walk walkIn entryAt
 checked-custom = refl
 
 pub checked-most : listedChecked 4_000_000 [] ≡ As ChaCha20
-unfolding checked checkedCipher checkedSizes checkedCustom customVerdict cipherOf identifier nonceLength same roundsLimit
+unfolding checked checkedCipher checkedSizes saltSized checkedFigures checkedCustom customVerdict cipherOf identifier nonceLength same roundsLimit
 checked-most = refl
 
 pub checked-more : listedChecked 4_000_001 [] ≡ Refused TooManyRounds
-unfolding checked checkedCipher checkedSizes checkedCustom customVerdict cipherOf identifier nonceLength same roundsLimit
+unfolding checked checkedCipher checkedSizes saltSized checkedFigures checkedCustom customVerdict cipherOf identifier nonceLength same roundsLimit
 checked-more = refl
+
+-- what the writer says to Argon2 with a salt
+abbrev saltedChecked : List ℕ → Checked
+saltedChecked salt =
+    checked 1 (identifier ChaCha20) (replicate 32 0x11) (replicate 12 0x22) (figures.Argon2d 1 8_192 1) salt []
+
+pub checked-salt : saltedChecked (replicate 8 0x33) ≡ As ChaCha20
+unfolding checked checkedCipher checkedSizes saltSized checkedFigures checkedCustom customVerdict cipherOf identifier nonceLength same argon2Fits
+checked-salt = refl
+
+pub checked-salt-short : saltedChecked (replicate 7 0x33) ≡ Refused FigureOutside
+unfolding checked checkedCipher checkedSizes saltSized checkedFigures checkedCustom customVerdict cipherOf identifier nonceLength same argon2Fits
+checked-salt-short = refl

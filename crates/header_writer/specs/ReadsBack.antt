@@ -14,41 +14,55 @@ use Rattle.fields.specs.Fields.{bytesAt, nowhere}
 use Rattle.fields.specs.declared.Place.{Place}
 use Rattle.ciphers.specs.Ciphers.{nonceLength}
 use Rattle.ciphers.specs.declared.Cipher.{Cipher}
-use Rattle.kdf_dictionary.specs.Kdf.{kdfBytes}
+use Rattle.kdf_dictionary.specs.Kdf.{kdfBytes, kdfLength, writtenKdf}
+use Rattle.kdf_dictionary.specs.declared.Kdf.{Kdf}
+use Rattle.kdf_dictionary.specs.declared.Kdf.the-variants as kdf
+use Rattle.kdf_dictionary.specs.declared.writer.Figures.{Figures}
 use Rattle.outer_header.specs.Kdbx4Header.{header}
 use Rattle.outer_header.specs.declared.Header.{Header}
 use Rattle.outer_header.specs.declared.Reading.the-variants as read
 use Rattle.header_writer.specs.Written.{headerBytes, headerLength}
 
--- where a custom dictionary of n bytes stands
-abbrev pub customPlace : Cipher → ℕ → Place
-customPlace c n = cond (eqb n 0) nowhere (record { start = 187 + nonceLength c; length = n })
+-- where the KDF dictionary stands, with a seed or salt of m bytes
+abbrev pub kdfPlace : Cipher → Figures → ℕ → Place
+kdfPlace c fig m = record { start = 89 + nonceLength c; length = kdfLength fig m }
 
--- the figures of a header that is written, with a custom dictionary of n bytes
-abbrev pub writtenHeader : ℕ → Cipher → ℕ → ℕ → Header
-writtenHeader minor c rounds n =
+-- where a custom dictionary of n bytes stands behind it
+abbrev pub customPlace : Cipher → Figures → ℕ → ℕ → Place
+customPlace c fig m n =
+    cond (eqb n 0) nowhere (record { start = 94 + nonceLength c + kdfLength fig m; length = n })
+
+-- the figures of a header that is written, with a seed or salt of m bytes and a custom dictionary of n
+abbrev pub writtenHeader : ℕ → Cipher → Figures → ℕ → ℕ → Header
+writtenHeader minor c fig m n =
     record {
       minor = minor;
       cipher = c;
       seed = record { start = 47; length = 32 };
       nonce = record { start = 84; length = nonceLength c };
-      kdf = record { seed = record { start = 149 + nonceLength c; length = 32 }; rounds = rounds };
-      «kdf_dictionary» = record { start = 89 + nonceLength c; length = 93 };
-      custom = customPlace c n;
-      length = headerLength c n;
+      kdf = writtenKdf fig (kdfPlace c fig m) m;
+      «kdf_dictionary» = kdfPlace c fig m;
+      custom = customPlace c fig m n;
+      length = headerLength c fig m n;
     }
 
+-- where a KDF's seed or salt stands
+abbrev pub saltPlace : Kdf → Place
+saltPlace (kdf.AesKdf k) = k .seed
+saltPlace (kdf.Argon2d k) = k .salt
+saltPlace (kdf.Argon2id k) = k .salt
+
 -- the reader finds h at the front of s: the figures that were written, and at its places the bytes that were written
-pub record ReadsBack (minor : ℕ) (c : Cipher) (seed nonce kdfSeed : List ℕ) (rounds : ℕ) (custom s : List ℕ)
+pub record ReadsBack (minor : ℕ) (c : Cipher) (seed nonce : List ℕ) (fig : Figures) (salt custom s : List ℕ)
     (h : Header) : Type 0 where
   pub header-is : header s ≡ read.Header h
   pub minor-is : h .minor ≡ minor
   pub cipher-is : h .cipher ≡ c
-  pub rounds-is : h .kdf .rounds ≡ rounds
+  pub kdf-is : h .kdf ≡ writtenKdf fig (h .«kdf_dictionary») (length salt)
   pub seed-is : bytesAt s (h .seed) ≡ seed
   pub nonce-is : bytesAt s (h .nonce) ≡ nonce
-  pub dictionary-is : bytesAt s (h .«kdf_dictionary») ≡ kdfBytes kdfSeed rounds
-  pub kdf-seed-is : bytesAt s (h .kdf .seed) ≡ kdfSeed
+  pub dictionary-is : bytesAt s (h .«kdf_dictionary») ≡ kdfBytes fig salt
+  pub salt-is : bytesAt s (saltPlace (h .kdf)) ≡ salt
   pub custom-is : bytesAt s (h .custom) ≡ custom
-  pub length-is : h .length ≡ length (headerBytes minor c seed nonce kdfSeed rounds custom)
-  pub length-told : h .length ≡ headerLength c (length custom)
+  pub length-is : h .length ≡ length (headerBytes minor c seed nonce fig salt custom)
+  pub length-told : h .length ≡ headerLength c fig (length salt) (length custom)

@@ -1,29 +1,32 @@
 -- The outer header that is written: document 01, "Header" and "File after the header".
 --
---   "Order: 4, 9, 5 (seeds, nonce), 11, 10 or 6, .."            checked, checkedSizes, checkedCustom
+--   "Order: 4, 9, 5 (seeds, nonce), 11, 10 or 6, .."; 22 in
+--    11's place, "the writer's salt length included"           checked, checkedSizes, checkedFigures, checkedCustom
 --   "Signatures 0x9AA2D903 and 0xB54BFB67, then the version,
 --    major in the high word"                                    versionBytes
 --   "custom dictionary (zero length: field absent)"             customField
 --   "Fields are 2, 3, 4, 7, 11, 12, 0"                          headerBytes
 -- Not here: fields (crate fields), the KDF dictionary (crate dictionary, Kdf), reading (crate outer_header).
 -- Assumes nothing.
-use mathlib.Core.Bool.{cond}
+use mathlib.Core.Bool.{Bool, true, cond}
 use mathlib.Core.List.{List, [], _∷_, _++_}
 use Prim.Native.Nat.{ℕ, _+_}
 use lib.Dec.{eqb, leb}
 use lib.ListN.{length}
 use Rattle.words.specs.Endian.{leBytes}
-use Rattle.refusals.specs.declared.Refusal.the-variants.{WrongVersion, WrongSize, Unlisted, TooManyRounds}
+use Rattle.refusals.specs.declared.Refusal.the-variants.{WrongVersion, WrongSize, Unlisted, TooManyRounds, FigureOutside}
 use Rattle.refusals.specs.declared.Outcome.{Outcome}
 use Rattle.refusals.specs.declared.Outcome.the-variants as outcome
-use Rattle.refusals.specs.Limits.{roundsLimit}
+use Rattle.refusals.specs.Limits.{roundsLimit, argon2Fits}
 use Rattle.fields.specs.Fields.{fieldBytes}
 use Rattle.ciphers.specs.Ciphers.{identifier, cipherOf, nonceLength}
 use Rattle.ciphers.specs.declared.Cipher.{Cipher}
 use Rattle.ciphers.specs.declared.Identified.{Identified}
 use Rattle.ciphers.specs.declared.Identified.the-variants as identified
 use Rattle.dictionary.specs.Dictionary.{verdict}
-use Rattle.kdf_dictionary.specs.Kdf.{kdfBytes}
+use Rattle.kdf_dictionary.specs.Kdf.{kdfBytes, kdfLength}
+use Rattle.kdf_dictionary.specs.declared.writer.Figures.{Figures}
+use Rattle.kdf_dictionary.specs.declared.writer.Figures.the-variants as figures
 use Rattle.header_writer.specs.declared.Checked.{Checked}
 use Rattle.header_writer.specs.declared.Checked.the-variants.{As, Refused}
 
@@ -51,14 +54,14 @@ abbrev pub frontOf : ℕ → Cipher → List ℕ → List ℕ
 frontOf minor c seed =
     versionBytes minor ++ fieldBytes 2 (identifier c) ++ fieldBytes 3 noCompression ++ fieldBytes 4 seed
 
-unfoldable pub headerBytes : ℕ → Cipher → List ℕ → List ℕ → List ℕ → ℕ → List ℕ → List ℕ
-headerBytes minor c seed nonce kdfSeed rounds custom =
+unfoldable pub headerBytes : ℕ → Cipher → List ℕ → List ℕ → Figures → List ℕ → List ℕ → List ℕ
+headerBytes minor c seed nonce fig salt custom =
     versionBytes minor ++ fieldBytes 2 (identifier c) ++ fieldBytes 3 noCompression ++ fieldBytes 4 seed
-    ++ fieldBytes 7 nonce ++ fieldBytes 11 (kdfBytes kdfSeed rounds) ++ customField custom ++ fieldBytes 0 endBytes
+    ++ fieldBytes 7 nonce ++ fieldBytes 11 (kdfBytes fig salt) ++ customField custom ++ fieldBytes 0 endBytes
 
--- how many bytes a header has
-unfoldable pub headerLength : Cipher → ℕ → ℕ
-headerLength c n = 191 + nonceLength c + cond (eqb n 0) 0 (5 + n)
+-- how many bytes a header has, with a seed or salt of m bytes and a custom dictionary of n
+unfoldable pub headerLength : Cipher → Figures → ℕ → ℕ → ℕ
+headerLength c fig m n = 98 + nonceLength c + kdfLength fig m + cond (eqb n 0) 0 (5 + n)
 
 -- 10 or 6, where there is a custom dictionary
 unfoldable pub customVerdict : List ℕ → Outcome
@@ -68,22 +71,37 @@ unfoldable pub checkedCustom : Cipher → Outcome → Checked
 checkedCustom c outcome.Accepted = As c
 checkedCustom c (outcome.Refused r) = Refused r
 
--- 5 (seeds, nonce), 11, 10 or 6
-unfoldable pub checkedSizes : Cipher → List ℕ → List ℕ → List ℕ → ℕ → List ℕ → Checked
-checkedSizes c seed nonce kdfSeed rounds custom =
+-- the size of AES-KDF's seed; Argon2's salt is one of its figures
+unfoldable pub saltSized : Figures → ℕ → Bool
+saltSized (figures.AesKdf rounds) n = eqb n 32
+saltSized (figures.Argon2d passes memory lanes) n = true
+saltSized (figures.Argon2id passes memory lanes) n = true
+
+-- 11 of AES-KDF, 22 of Argon2; then 10 or 6
+unfoldable pub checkedFigures : Cipher → Figures → List ℕ → List ℕ → Checked
+checkedFigures c (figures.AesKdf rounds) salt custom =
+    cond (leb rounds roundsLimit) (checkedCustom c (customVerdict custom)) (Refused TooManyRounds)
+checkedFigures c (figures.Argon2d passes memory lanes) salt custom =
+    cond (argon2Fits (length salt) passes memory lanes) (checkedCustom c (customVerdict custom))
+    (Refused FigureOutside)
+checkedFigures c (figures.Argon2id passes memory lanes) salt custom =
+    cond (argon2Fits (length salt) passes memory lanes) (checkedCustom c (customVerdict custom))
+    (Refused FigureOutside)
+
+-- 5 (seeds, nonce), then the figures
+unfoldable pub checkedSizes : Cipher → List ℕ → List ℕ → Figures → List ℕ → List ℕ → Checked
+checkedSizes c seed nonce fig salt custom =
     cond (eqb (length seed) 32)
     (cond (eqb (length nonce) (nonceLength c))
-    (cond (eqb (length kdfSeed) 32)
-    (cond (leb rounds roundsLimit) (checkedCustom c (customVerdict custom)) (Refused TooManyRounds))
-    (Refused WrongSize))
+    (cond (saltSized fig (length salt)) (checkedFigures c fig salt custom) (Refused WrongSize))
     (Refused WrongSize))
     (Refused WrongSize)
 
-unfoldable pub checkedCipher : Identified → List ℕ → List ℕ → List ℕ → ℕ → List ℕ → Checked
-checkedCipher identified.Unlisted seed nonce kdfSeed rounds custom = Refused Unlisted
-checkedCipher (identified.As c) seed nonce kdfSeed rounds custom = checkedSizes c seed nonce kdfSeed rounds custom
+unfoldable pub checkedCipher : Identified → List ℕ → List ℕ → Figures → List ℕ → List ℕ → Checked
+checkedCipher identified.Unlisted seed nonce fig salt custom = Refused Unlisted
+checkedCipher (identified.As c) seed nonce fig salt custom = checkedSizes c seed nonce fig salt custom
 
 -- the writer's checks of a header's figures: minor version, cipher's identifier, and the rest
-unfoldable pub checked : ℕ → List ℕ → List ℕ → List ℕ → List ℕ → ℕ → List ℕ → Checked
-checked minor id seed nonce kdfSeed rounds custom =
-    cond (leb minor 1) (checkedCipher (cipherOf id) seed nonce kdfSeed rounds custom) (Refused WrongVersion)
+unfoldable pub checked : ℕ → List ℕ → List ℕ → List ℕ → Figures → List ℕ → List ℕ → Checked
+checked minor id seed nonce fig salt custom =
+    cond (leb minor 1) (checkedCipher (cipherOf id) seed nonce fig salt custom) (Refused WrongVersion)

@@ -3,7 +3,7 @@
 //   signatures, version | 2 cipher | 3 compression | 4 master seed | 7 nonce | 11 KDF dictionary | 12 custom | 0 end
 //
 // `check` makes the writer's checks of the figures, `write` lays the header, `header_len` tells its length beforehand.
-// The contracts cite specs/Written. Refusals: 4, 9, 5, 11, then 10 or 6.
+// The contracts cite specs/Written. Refusals: 4, 9, 5, 11 of AES-KDF or 22 of Argon2, then 10 or 6.
 ghost use mathlib.Core.Path.{_≡_};
 ghost use Prim.Native.Nat.{_≤_};
 ghost use lib.ListN.{length, take};
@@ -11,6 +11,7 @@ ghost use Rattle.slices.specs.Over.{laid, putAt};
 ghost use Rattle.header_writer.specs.Written as written;
 use ciphers::Cipher;
 use ciphers::Identified;
+use kdf_dictionary::writer::Figures;
 use refusals::Outcome;
 use refusals::Refusal;
 
@@ -33,16 +34,69 @@ fn check_custom(c: Cipher, custom: &[u8]) -> Checked
     }
 }
 
-// Sizes of seeds and nonce, rounds, custom dictionary.
+// Whether AES-KDF's seed has its size. Argon2's salt is one of its figures.
+fn is_sized(figures: Figures, n: usize) -> bool
+    ensures { λ r. ⌜ r ≡ written.saltSized figures n ⌝ }
+{
+    match figures {
+        Figures::AesKdf { rounds: _ } => return n == 32,
+        Figures::Argon2d {
+            passes: _,
+            memory: _,
+            lanes: _,
+        } => return true,
+        Figures::Argon2id {
+            passes: _,
+            memory: _,
+            lanes: _,
+        } => return true,
+    }
+}
+
+// The KDF's figures, custom dictionary.
+fn check_figures(c: Cipher, figures: Figures, salt: &[u8], custom: &[u8]) -> Checked
+    ensures { λ r. ⌜ r ≡ written.checkedFigures c figures (now (salt .entry)) (now (custom .entry)) ⌝ }
+{
+    match figures {
+        Figures::AesKdf { rounds } => {
+            if refusals::limits::rounds_fit(rounds) {
+                return check_custom(c, custom);
+            }
+            return Checked::Refused(Refusal::TooManyRounds);
+        }
+        Figures::Argon2d {
+            passes,
+            memory,
+            lanes,
+        } => {
+            if refusals::limits::argon2_figures_fit(salt.len(), passes, memory, lanes) {
+                return check_custom(c, custom);
+            }
+            return Checked::Refused(Refusal::FigureOutside);
+        }
+        Figures::Argon2id {
+            passes,
+            memory,
+            lanes,
+        } => {
+            if refusals::limits::argon2_figures_fit(salt.len(), passes, memory, lanes) {
+                return check_custom(c, custom);
+            }
+            return Checked::Refused(Refusal::FigureOutside);
+        }
+    }
+}
+
+// Sizes of seeds and nonce, figures, custom dictionary.
 fn check_sizes(
     c: Cipher,
     seed: &[u8],
     nonce: &[u8],
-    kdf_seed: &[u8],
-    rounds: u64,
+    figures: Figures,
+    salt: &[u8],
     custom: &[u8],
 ) -> Checked
-    ensures { λ r. ⌜ r ≡ written.checkedSizes c (now (seed .entry)) (now (nonce .entry)) (now («kdf_seed» .entry)) rounds (now (custom .entry)) ⌝ }
+    ensures { λ r. ⌜ r ≡ written.checkedSizes c (now (seed .entry)) (now (nonce .entry)) figures (now (salt .entry)) (now (custom .entry)) ⌝ }
 {
     if seed.len() != 32 {
         return Checked::Refused(Refusal::WrongSize);
@@ -50,13 +104,10 @@ fn check_sizes(
     if nonce.len() != c.nonce_len() {
         return Checked::Refused(Refusal::WrongSize);
     }
-    if kdf_seed.len() != 32 {
-        return Checked::Refused(Refusal::WrongSize);
+    if is_sized(figures, salt.len()) {
+        return check_figures(c, figures, salt, custom);
     }
-    if refusals::limits::rounds_fit(rounds) {
-        return check_custom(c, custom);
-    }
-    Checked::Refused(Refusal::TooManyRounds)
+    Checked::Refused(Refusal::WrongSize)
 }
 
 // Whether a header with these figures may be written.
@@ -65,18 +116,18 @@ pub fn check(
     cipher: &[u8],
     seed: &[u8],
     nonce: &[u8],
-    kdf_seed: &[u8],
-    rounds: u64,
+    figures: Figures,
+    salt: &[u8],
     custom: &[u8],
 ) -> Checked
-    ensures { λ r. ⌜ r ≡ written.checked minor (now (cipher .entry)) (now (seed .entry)) (now (nonce .entry)) (now («kdf_seed» .entry)) rounds (now (custom .entry)) ⌝ }
+    ensures { λ r. ⌜ r ≡ written.checked minor (now (cipher .entry)) (now (seed .entry)) (now (nonce .entry)) figures (now (salt .entry)) (now (custom .entry)) ⌝ }
 {
     if 1 < minor {
         return Checked::Refused(Refusal::WrongVersion);
     }
     match ciphers::identify(cipher) {
         Identified::Unlisted => return Checked::Refused(Refusal::Unlisted),
-        Identified::As(c) => return check_sizes(c, seed, nonce, kdf_seed, rounds, custom),
+        Identified::As(c) => return check_sizes(c, seed, nonce, figures, salt, custom),
     }
 }
 
@@ -116,7 +167,7 @@ fn write_front(minor: u16, c: Cipher, seed: [u8; 32], out: &mut [u8])
 
 // Lays the custom dictionary, where there is one, and the end field.
 fn write_end(out: &mut [u8], at: usize, custom: &[u8])
-    requires { ⌜ at ≤ 198 ⌝ }
+    requires { ⌜ at ≤ 400 ⌝ }
     ensures { λ _. ⌜ now (out .exit) ≡ putAt at (written.endOf (now (custom .entry))) (now (out .entry)) ⌝ }
 {
     let end = [0x0Du8, 0x0A, 0x0D, 0x0A];
@@ -128,34 +179,36 @@ fn write_end(out: &mut [u8], at: usize, custom: &[u8])
     fields::put(out, at + 5 + custom.len(), 0, &end);
 }
 
-// Lays a header at the front of `out`, as far as there is room. A nonce has at most sixteen bytes; more are not looked
-// at.
+// Lays a header at the front of `out`, as far as there is room. A nonce has at most sixteen bytes and a seed or salt at
+// most 64; more are not looked at.
 pub fn write(
     minor: u16,
     c: Cipher,
     seed: [u8; 32],
     nonce: &[u8],
-    kdf_seed: [u8; 32],
-    rounds: u64,
+    figures: Figures,
+    salt: &[u8],
     custom: &[u8],
     out: &mut [u8],
 )
-    ensures { λ _. ⌜ now (out .exit) ≡ laid (written.headerBytes minor c seed (take 16 (now (nonce .entry))) «kdf_seed» rounds (now (custom .entry))) (now (out .entry)) ⌝ }
+    ensures { λ _. ⌜ now (out .exit) ≡ laid (written.headerBytes minor c seed (take 16 (now (nonce .entry))) figures (take 64 (now (salt .entry))) (now (custom .entry))) (now (out .entry)) ⌝ }
 {
     let n = slices::part(nonce, 0, 16);
-    let kdf = kdf_dictionary::writer::write_kdf(kdf_seed, rounds);
+    let mut kdf = [0u8; 171];
+    kdf_dictionary::writer::write_kdf(figures, salt, &mut kdf);
+    let length = kdf_dictionary::writer::kdf_len(figures, salt);
     let at = 84 + n.len();
     write_front(minor, c, seed, out);
     fields::put(out, 79, 7, n);
-    fields::put(out, at, 11, &kdf);
-    write_end(out, at + 98, custom);
+    fields::put(out, at, 11, slices::part(&kdf, 0, length));
+    write_end(out, at + 5 + length, custom);
 }
 
-// How many bytes a header with such a custom dictionary has.
-pub fn header_len(c: Cipher, custom: &[u8]) -> usize
-    ensures { λ r. ⌜ r ≡ written.headerLength c (length (now (custom .entry))) ⌝ }
+// How many bytes a header with such a KDF and such a custom dictionary has.
+pub fn header_len(c: Cipher, figures: Figures, salt: &[u8], custom: &[u8]) -> usize
+    ensures { λ r. ⌜ r ≡ written.headerLength c figures (length (take 64 (now (salt .entry)))) (length (now (custom .entry))) ⌝ }
 {
-    let n = 191 + c.nonce_len();
+    let n = 98 + c.nonce_len() + kdf_dictionary::writer::kdf_len(figures, salt);
     if custom.len() == 0 {
         return n;
     }

@@ -18,8 +18,8 @@ use Rattle.ciphers.specs.Ciphers.{identifier, cipherOf, nonceLength}
 use Rattle.ciphers.specs.declared.Cipher.the-variants.{ChaCha20}
 use Rattle.dictionary.specs.Dictionary as dictionary
 use Rattle.dictionary.specs.Dictionary.{itemBytes}
-use Rattle.kdf_dictionary.specs.Kdf.{kdfBytes}
-use Rattle.kdf_dictionary.specs.KdfDictionary.{roundsIn, seedIn, uuidIn, kdfIn, kdfOf}
+use Rattle.kdf_dictionary.specs.Kdf.{aesKdfBytes}
+use Rattle.kdf_dictionary.specs.KdfDictionary.{typedIn, aesKdfIn, aesKdfOf, listedAs, listedIn, uuidIn, uuidOf, kdfIn, kdfOf}
 use Rattle.outer_header.specs.Kdbx4Header as kdbx4
 use Rattle.outer_header.specs.Frames.{fieldFrames, frames}
 use Rattle.listing.specs.Listing.{hexDigit, hexByte, hexLine, hexLines, refusalLine, textOf, text}
@@ -37,7 +37,7 @@ chaChaHeader =
     ++ fieldBytes 3 (0 ∷ 0 ∷ 0 ∷ 0 ∷ [])
     ++ fieldBytes 4 (replicate 32 0x11)
     ++ fieldBytes 7 (replicate 12 0x22)
-    ++ fieldBytes 11 (kdfBytes (replicate 32 0x33) 1)
+    ++ fieldBytes 11 (aesKdfBytes (replicate 32 0x33) 1)
     ++ fieldBytes 0 (0x0D ∷ 0x0A ∷ 0x0D ∷ 0x0A ∷ [])
 
 short : text [] ≡ ascii "R02\n"
@@ -54,5 +54,5 @@ listed : text chaChaHeader
     ++ ascii "0501000000520800000001000000000000004201000000532000000033333333333333333333"
     ++ ascii "3333333333333333333333333333333333333333333300\n"
     ++ ascii "00040000000D0A0D0A\n"
-unfolding ascii text textOf hexLines hexLine hexByte hexDigit flatMap frames fieldFrames kdbx4.header kdbx4.body kdbx4.judgedIn kdbx4.judged kdbx4.identified kdbx4.figures kdbx4.figuresIn kdbx4.customOf kdbx4.complete kdbx4.walk kdbx4.walkIn kdbx4.endsRight kdbx4.fieldHere kdbx4.noFields kdbx4.put kdbx4.seen kdbx4.sizeRule kdbx4.listed fieldAt valueAt fits int32 le leBytes same fieldBytes kdfBytes itemBytes identifier cipherOf nonceLength kdfOf kdfIn uuidIn seedIn roundsIn roundsLimit fileLimit programLimit dictionary.verdict dictionary.walk dictionary.walkIn dictionary.named dictionary.namedIn dictionary.entryAt dictionary.nameAt dictionary.valueAt dictionary.sizeFits dictionary.searchFrom dictionary.searchIn
+unfolding ascii text textOf hexLines hexLine hexByte hexDigit flatMap frames fieldFrames kdbx4.header kdbx4.body kdbx4.judgedIn kdbx4.judged kdbx4.identified kdbx4.figures kdbx4.figuresIn kdbx4.customOf kdbx4.complete kdbx4.walk kdbx4.walkIn kdbx4.endsRight kdbx4.fieldHere kdbx4.noFields kdbx4.put kdbx4.seen kdbx4.sizeRule kdbx4.listed fieldAt valueAt fits int32 le leBytes same fieldBytes aesKdfBytes itemBytes identifier cipherOf nonceLength kdfOf kdfIn uuidOf uuidIn listedAs listedIn aesKdfOf aesKdfIn typedIn roundsLimit fileLimit programLimit dictionary.verdict dictionary.walk dictionary.walkIn dictionary.named dictionary.namedIn dictionary.entryAt dictionary.nameAt dictionary.valueAt dictionary.sizeFits dictionary.searchFrom dictionary.searchIn
 listed = refl

@@ -6,30 +6,48 @@
 --   custom-long        "Of 7FFFFFFF in a short file: 2"
 --   rounds-most, rounds-more    "Rounds 4,000,000 pass, 4,000,001 give 11"
 --   header-listed      the 4.1 ChaCha20 header with R = 1, seeds of bytes 11 and 33, nonce of bytes 22
+--   header-argon2id    .. with Argon2id at its greatest memory and lanes instead, salt of bytes 33
 -- Assumes nothing.
 use mathlib.Core.Path.{_≡_, refl}
-use mathlib.Core.Bool.{false}
+use mathlib.Core.Bool.{true, false}
 use mathlib.Core.List.{List, [], _∷_, _++_}
 use Prim.Native.Nat.{ℕ, _+_, _-_, _≤_, _<_}
 use native.Mathlib.Omega.{arith}
 use lib.ListN.{length, getD, replicate}
-use borrow.Author.Tests.{le-leb, lt-leb, lt-ltb}
+use borrow.Author.Tests.{eq-eqb, le-leb, lt-leb, lt-ltb}
 use Rattle.words.specs.Endian.{le, leBytes}
 use Rattle.words.specs.Size.{int32}
 use Rattle.slices.specs.Same.{same}
 use Rattle.refusals.specs.declared.Refusal.the-variants.{CutShort, WrongSize, TooManyRounds}
-use Rattle.refusals.specs.Limits.{fileLimit, roundsLimit}
-use Rattle.fields.specs.Fields.{fits, valueAt, fieldAt, fieldBytes}
+use Rattle.refusals.specs.Limits.{fileLimit, roundsLimit, argon2Fits}
+use Rattle.fields.specs.Fields.{given, fits, valueAt, fieldAt, fieldBytes}
 use Rattle.fields.specs.declared.Place.{Place}
 use Rattle.fields.specs.declared.Field.the-variants as field
 use Rattle.ciphers.specs.Ciphers.{identifier, cipherOf, nonceLength}
 use Rattle.ciphers.specs.declared.Cipher.the-variants.{ChaCha20}
 use Rattle.dictionary.specs.Dictionary as dictionary
-use Rattle.kdf_dictionary.specs.Kdf.{kdfBytes}
-use Rattle.dictionary.specs.declared.Found.the-variants as found
+use Rattle.kdf_dictionary.specs.Kdf.{argon2idUuid, aesKdfBytes, argon2Bytes}
 use Rattle.dictionary.specs.Dictionary.{itemBytes}
-use Rattle.kdf_dictionary.specs.KdfDictionary.{roundsIn, seedIn, uuidIn, kdfIn, kdfOf}
-use Rattle.kdf_dictionary.specs.declared.Reading.the-variants as kdf
+use Rattle.kdf_dictionary.specs.KdfDictionary as kdfs
+use Rattle.kdf_dictionary.specs.KdfDictionary.{
+  typedIn,
+  isFound,
+  placeIn,
+  aesKdfIn,
+  aesKdfOf,
+  argon2Items,
+  argon2Listed,
+  argon2Figures,
+  argon2In,
+  listedAs,
+  listedIn,
+  uuidIn,
+  uuidOf,
+  kdfIn,
+  kdfOf,
+}
+use Rattle.kdf_dictionary.specs.declared.Kdf.the-variants as kdf
+use Rattle.kdf_dictionary.specs.declared.Reading.the-variants as asks
 use Rattle.outer_header.specs.declared.walk.Fields.{Fields}
 use Rattle.outer_header.specs.declared.Reading.the-variants as read
 use Rattle.outer_header.specs.Kdbx4Header.{
@@ -73,37 +91,55 @@ module _ (f : Fields) (s : List ℕ) (at : ℕ) (fresh : seen f 12 ≡ false) (h
       let l : length s - (at + 5) < 0x7FFFFFFF = omega arith in
       rw (custom, fresh, le-leb _ _ here, e, lt-leb _ _ l)
 
-module _ (d : List ℕ) (seed : Place) (start : ℕ) where
-  pub rounds-most : le 8 d start ≡ 4_000_000
-      → roundsIn d seed (found.At 0x05 start 8) ≡ kdf.Asks (record { seed = seed; rounds = 4_000_000 })
-  unfolding roundsIn roundsLimit
-  rounds-most e = rw e
+module _ (d : List ℕ) (p q r : Place) (long : q .length ≡ 32) (there : given r ≡ true) where
+  pub rounds-most : le 8 d (r .start) ≡ 4_000_000
+      → aesKdfIn d p q r ≡ asks.Asks (kdf.AesKdf (record { seed = placeIn p q; rounds = 4_000_000 }))
+  unfolding aesKdfIn roundsLimit
+  rounds-most e = rw (eq-eqb (q .length) 32 long, there, e)
 
-  pub rounds-more : le 8 d start ≡ 4_000_001 → roundsIn d seed (found.At 0x05 start 8) ≡ kdf.Refused TooManyRounds
-  unfolding roundsIn roundsLimit
-  rounds-more e = rw e
+  pub rounds-more : le 8 d (r .start) ≡ 4_000_001 → aesKdfIn d p q r ≡ asks.Refused TooManyRounds
+  unfolding aesKdfIn roundsLimit
+  rounds-more e = rw (eq-eqb (q .length) 32 long, there, e)
 
-abbrev chaChaHeader : List ℕ
-chaChaHeader =
+-- a header of ChaCha20 with a KDF dictionary
+abbrev chaChaHeader : List ℕ → List ℕ
+chaChaHeader d =
     leBytes 4 0x9AA2D903 ++ leBytes 4 0xB54BFB67 ++ leBytes 4 0x40001
     ++ fieldBytes 2 (identifier ChaCha20)
     ++ fieldBytes 3 (0 ∷ 0 ∷ 0 ∷ 0 ∷ [])
     ++ fieldBytes 4 (replicate 32 0x11)
     ++ fieldBytes 7 (replicate 12 0x22)
-    ++ fieldBytes 11 (kdfBytes (replicate 32 0x33) 1)
+    ++ fieldBytes 11 d
     ++ fieldBytes 0 (0x0D ∷ 0x0A ∷ 0x0D ∷ 0x0A ∷ [])
 
-pub header-listed : header chaChaHeader
+pub header-listed : header (chaChaHeader (aesKdfBytes (replicate 32 0x33) 1))
     ≡ read.Header
     (record {
       minor = 1;
       cipher = ChaCha20;
       seed = record { start = 47; length = 32 };
       nonce = record { start = 84; length = 12 };
-      kdf = record { seed = record { start = 161; length = 32 }; rounds = 1 };
+      kdf = kdf.AesKdf (record { seed = record { start = 161; length = 32 }; rounds = 1 });
       «kdf_dictionary» = record { start = 101; length = 93 };
       custom = record { start = 0; length = 0 };
       length = 203;
     })
-unfolding header body judgedIn judged identified figures figuresIn customOf complete walk walkIn endsRight fieldHere noFields put seen sizeRule listed fieldAt valueAt fits int32 le leBytes same fieldBytes kdfBytes itemBytes identifier cipherOf nonceLength kdfOf kdfIn uuidIn seedIn roundsIn roundsLimit fileLimit dictionary.verdict dictionary.walk dictionary.walkIn dictionary.named dictionary.namedIn dictionary.entryAt dictionary.nameAt dictionary.valueAt dictionary.sizeFits dictionary.searchFrom dictionary.searchIn
+unfolding header body judgedIn judged identified figures figuresIn customOf complete walk walkIn endsRight fieldHere noFields put seen sizeRule listed fieldAt valueAt fits int32 le leBytes same fieldBytes aesKdfBytes argon2Bytes itemBytes identifier cipherOf nonceLength kdfOf kdfIn uuidOf uuidIn listedAs listedIn aesKdfOf aesKdfIn typedIn isFound argon2Items kdfs.complete argon2Listed argon2Figures argon2In argon2Fits roundsLimit fileLimit dictionary.verdict dictionary.walk dictionary.walkIn dictionary.named dictionary.namedIn dictionary.entryAt dictionary.nameAt dictionary.valueAt dictionary.sizeFits dictionary.searchFrom dictionary.searchIn
 header-listed = refl
+
+pub header-argon2id : header (chaChaHeader (argon2Bytes argon2idUuid (replicate 32 0x33) 2 67_108_864 16))
+    ≡ read.Header
+    (record {
+      minor = 1;
+      cipher = ChaCha20;
+      seed = record { start = 47; length = 32 };
+      nonce = record { start = 84; length = 12 };
+      kdf =
+          kdf.Argon2id
+          (record { salt = record { start = 193; length = 32 }; passes = 2; memory = 67_108_864; lanes = 16 });
+      «kdf_dictionary» = record { start = 101; length = 139 };
+      custom = record { start = 0; length = 0 };
+      length = 249;
+    })
+unfolding header body judgedIn judged identified figures figuresIn customOf complete walk walkIn endsRight fieldHere noFields put seen sizeRule listed fieldAt valueAt fits int32 le leBytes same fieldBytes aesKdfBytes argon2Bytes itemBytes identifier cipherOf nonceLength kdfOf kdfIn uuidOf uuidIn listedAs listedIn aesKdfOf aesKdfIn typedIn isFound argon2Items kdfs.complete argon2Listed argon2Figures argon2In argon2Fits roundsLimit fileLimit dictionary.verdict dictionary.walk dictionary.walkIn dictionary.named dictionary.namedIn dictionary.entryAt dictionary.nameAt dictionary.valueAt dictionary.sizeFits dictionary.searchFrom dictionary.searchIn
+header-argon2id = refl

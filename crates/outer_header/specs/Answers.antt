@@ -2,17 +2,18 @@
 -- number with zero in every other answer").
 --
 --   cipherNumber    0 of AES-256, 1 of ChaCha20
---   valuesOf        of an accepted header: minor version, cipher, length; start and length of seed, nonce, KDF dictionary,
---                   custom dictionary and KDF seed; rounds
+--   valuesOf        of an accepted header: minor version, cipher, length; start and length of seed, nonce, KDF dictionary
+--                   and custom dictionary; the KDF's values (crate kdf_dictionary, Answers)
 --   number, values  of either answer
 -- Not here: what the answer is (Kdbx4Header).
 -- Assumes nothing.
-use mathlib.Core.List.{List, [], _∷_}
+use mathlib.Core.List.{List, _∷_}
 use Prim.Native.Nat.{ℕ}
 use lib.ListN.{replicate}
 use Rattle.refusals.specs.Numbers.{ofRefusal}
 use Rattle.ciphers.specs.declared.Cipher.{Cipher}
 use Rattle.ciphers.specs.declared.Cipher.the-variants.{Aes256, ChaCha20}
+use Rattle.kdf_dictionary.specs.Answers.{kdfValues}
 use Rattle.outer_header.specs.declared.Header.{Header}
 use Rattle.outer_header.specs.declared.Reading.{Reading}
 use Rattle.outer_header.specs.declared.Reading.the-variants as read
@@ -28,7 +29,7 @@ valuesOf h =
     ∷ h .nonce .start ∷ h .nonce .length
     ∷ h .«kdf_dictionary» .start ∷ h .«kdf_dictionary» .length
     ∷ h .custom .start ∷ h .custom .length
-    ∷ h .kdf .seed .start ∷ h .kdf .seed .length ∷ h .kdf .rounds ∷ []
+    ∷ kdfValues (h .kdf)
 
 abbrev pub number : Reading → ℕ
 number (read.Header h) = 0
@@ -36,4 +37,4 @@ number (read.Refused r) = ofRefusal r
 
 abbrev pub values : Reading → List ℕ
 values (read.Header h) = valuesOf h
-values (read.Refused r) = replicate 14 0
+values (read.Refused r) = replicate 17 0

@@ -99,9 +99,9 @@ module _ (g : Figures) (c : Cipher) (t b : List ℕ) (ok : checkedOf g ≡ As c)
   length-front =
       rw (length-append, length-append) (omega (arith, length-headerHash h, length-headerTag (k .base) h))
 
-  checks : IsChecked (g .minor) (g .cipher) (g .seed) (g .nonce) (g .kdfSeed) (g .rounds) (g .custom) c
+  checks : IsChecked (g .minor) (g .cipher) (g .seed) (g .nonce) (g .kdf) (g .salt) (g .custom) c
   unfolding checkedOf
-  checks = checked-as (g .minor) (g .cipher) (g .seed) (g .nonce) (g .kdfSeed) (g .rounds) (g .custom) c ok
+  checks = checked-as (g .minor) (g .cipher) (g .seed) (g .nonce) (g .kdf) (g .salt) (g .custom) c ok
 
   nonce-is : k .nonce ≡ padded (g .nonce)
   unfolding keysWith
@@ -131,16 +131,16 @@ module _ (g : Figures) (c : Cipher) (t b : List ℕ) (ok : checkedOf g ≡ As c)
   payload-is = ap (λ (x : Cipher). payloadBy x k text) cipher-is ∙ payload-by c k b nonce-block payload-bytes
 
   -- the reader finds the header that was written
-  back : ReadsBack (g .minor) c (g .seed) (g .nonce) (g .kdfSeed) (g .rounds) (g .custom) (fileBytes g c t b)
-      (writtenHeader (g .minor) c (g .rounds) (length (g .custom)))
+  back : ReadsBack (g .minor) c (g .seed) (g .nonce) (g .kdf) (g .salt) (g .custom) (fileBytes g c t b)
+      (writtenHeader (g .minor) c (g .kdf) (length (g .salt)) (length (g .custom)))
   unfolding checkedOf headerOf
   back =
       rw file-is
-      (header-read-back (g .minor) (g .cipher) (g .seed) (g .nonce) (g .kdfSeed) (g .rounds) (g .custom) c
+      (header-read-back (g .minor) (g .cipher) (g .seed) (g .nonce) (g .kdf) (g .salt) (g .custom) c
       (headerHash h ++ (headerTag (k .base) h ++ blocks)) ok (rw (← file-is) fits))
 
   abbrev said : Header
-  said = writtenHeader (g .minor) c (g .rounds) (length (g .custom))
+  said = writtenHeader (g .minor) c (g .kdf) (length (g .salt)) (length (g .custom))
 
   keys-are : keysOf t (fileBytes g c t b) said ≡ k
   unfolding keysOf

@@ -1,59 +1,107 @@
 -- The worked numbers of document 01, as one table.
 --
--- In order: lengths of files, counts of blocks, worked (the table).
+-- In order: lengths of files and of KDF dictionaries, rounds, counts of blocks, worked (the table).
 -- Assumes nothing.
-use mathlib.Core.Path.{_≡_, refl, sym, ap, _∙_}
+use mathlib.Core.Path.{_≡_, refl, sym, ap, ap₂, _∙_}
+use mathlib.Core.Bool.{true}
 use mathlib.Core.List.{List, [], _++_}
 use Prim.Native.Nat.{ℕ, _+_, _-_, _*_, _/_, _≤_}
 use native.Mathlib.Omega.{arith}
 use lib.ListN.{length, take, drop, length-drop, take-append-drop}
 use lib.Seq.{length-take-le}
+use Rattle.words.specs.Endian.{le}
+use Rattle.refusals.specs.declared.Refusal.the-variants.{TooManyRounds}
 use Rattle.refusals.specs.Limits.{writtenBlock}
 use Rattle.ciphers.specs.Ciphers.{nonceLength}
 use Rattle.ciphers.specs.declared.Cipher.{Cipher}
 use Rattle.ciphers.specs.declared.Cipher.the-variants.{Aes256, ChaCha20}
-use Rattle.kdf_dictionary.proofs.Laws.Kdf.{length-kdfBytes}
+use Rattle.fields.specs.Fields.{given}
+use Rattle.fields.specs.declared.Place.{Place}
+use Rattle.kdf_dictionary.specs.Kdf.{saltName, roundsName, kdfBytes, kdfLength}
+use Rattle.kdf_dictionary.specs.KdfDictionary.{itemOf, placeIn, aesKdfOf}
+use Rattle.kdf_dictionary.specs.declared.writer.Figures.{Figures as KdfFigures}
+use Rattle.kdf_dictionary.specs.declared.writer.Figures.the-variants as figures
+use Rattle.kdf_dictionary.specs.declared.Kdf.the-variants as kdf
+use Rattle.kdf_dictionary.specs.declared.Reading.the-variants as asks
+use Rattle.kdf_dictionary.proofs.Laws.Layout.{length-kdfBytes}
 use Rattle.stream.proofs.Laws.Apply.{length-apply}
 use Rattle.outer_header.proofs.Examples.{header-short, custom-negative, custom-long, rounds-most, rounds-more}
 use Rattle.header_writer.specs.Written.{headerLength}
-use Rattle.header_writer.proofs.Worked.{length-aes, length-chacha}
+use Rattle.header_writer.proofs.Worked.{length-kdf, length-aes, length-chacha}
 use Rattle.block_stream.specs.Blocks.{blockBytes}
 use Rattle.opening.specs.declared.Keys.{Keys}
 use Rattle.opening.proofs.Laws.Payload.{length-encrypted}
 use Rattle.opening.proofs.Worked as steps
 use Rattle.writer.specs.Written.{Figures, encryptionBy, blocksOf, headerOf, fileBytes}
-use Rattle.writer.specs.Stretches.{textLength, blocksLength, fileLength}
+use Rattle.writer.specs.Stretches.{textLength, blocksLength, fileLength, Sized}
 use Rattle.writer.proofs.Laws.Blocks.{blocks-full, blocks-last}
 use Rattle.writer.proofs.Laws.Files.{length-file}
 use Rattle.round_trip.specs.Worked.{Plain, WorkedNumbers}
 
--- a file without custom data
+-- a file of AES-KDF without custom data
+abbrev plainLength : Cipher → ℕ → ℕ
+plainLength c n = fileLength c (figures.AesKdf 0) 32 0 n
+
+-- how many rounds does not matter
+fileLength-rounds : (c : Cipher) (rounds l m n : ℕ)
+    → fileLength c (figures.AesKdf rounds) l m n ≡ fileLength c (figures.AesKdf 0) l m n
+unfolding fileLength headerLength kdfLength
+fileLength-rounds c rounds l m n = refl
+
 length-plain : (c : Cipher) (g : Figures) → Plain c g → (t b : List ℕ) (n : ℕ) → length b ≡ n
-    → length (fileBytes g c t b) ≡ fileLength c 0 n
+    → length (fileBytes g c t b) ≡ plainLength c n
 unfolding fileBytes headerOf
 length-plain c g p t b n e =
-    length-file (g .minor) c (g .seed) (g .nonce) (g .kdfSeed) (g .rounds) (g .custom) (p .sizes) t b
-    ∙ ap (λ (m : ℕ). fileLength c m (length b)) (ap length (p .no-custom)) ∙ ap (λ (m : ℕ). fileLength c 0 m) e
+    let z : Sized c (g .seed) (g .nonce) (g .salt) =
+    record { seed = p .seed-long; nonce = p .nonce-long; salt-le = omega (arith, p .kdf-seed-long) } in
+    length-file (g .minor) c (g .seed) (g .nonce) (g .kdf) (g .salt) (g .custom) z t b
+    ∙ ap₂ (λ (f : KdfFigures) (l : ℕ). fileLength c f l (length (g .custom)) (length b)) (p .aes-kdf) (p .kdf-seed-long)
+    ∙ ap₂ (λ (m k : ℕ). fileLength c (figures.AesKdf (p .rounds)) 32 m k) (ap length (p .no-custom)) e
+    ∙ fileLength-rounds c (p .rounds) 32 0 n
 
-file-0 : fileLength Aes256 0 0 ≡ 359
-unfolding fileLength headerLength nonceLength blocksLength textLength writtenBlock
+file-0 : plainLength Aes256 0 ≡ 359
+unfolding fileLength headerLength kdfLength nonceLength blocksLength textLength writtenBlock
 file-0 = refl
 
-file-0-chacha : fileLength ChaCha20 0 0 ≡ 303
-unfolding fileLength headerLength nonceLength blocksLength textLength writtenBlock
+file-0-chacha : plainLength ChaCha20 0 ≡ 303
+unfolding fileLength headerLength kdfLength nonceLength blocksLength textLength writtenBlock
 file-0-chacha = refl
 
-file-1-chacha : fileLength ChaCha20 0 1 ≡ 340
-unfolding fileLength headerLength nonceLength blocksLength textLength writtenBlock
+file-1-chacha : plainLength ChaCha20 1 ≡ 340
+unfolding fileLength headerLength kdfLength nonceLength blocksLength textLength writtenBlock
 file-1-chacha = refl
 
-file-16384 : fileLength Aes256 0 16_384 ≡ 16_779
-unfolding fileLength headerLength nonceLength blocksLength textLength writtenBlock
+file-16384 : plainLength Aes256 16_384 ≡ 16_779
+unfolding fileLength headerLength kdfLength nonceLength blocksLength textLength writtenBlock
 file-16384 = refl
 
-file-16384-chacha : fileLength ChaCha20 0 16_384 ≡ 16_723
-unfolding fileLength headerLength nonceLength blocksLength textLength writtenBlock
+file-16384-chacha : plainLength ChaCha20 16_384 ≡ 16_723
+unfolding fileLength headerLength kdfLength nonceLength blocksLength textLength writtenBlock
 file-16384-chacha = refl
+
+-- Argon2's dictionaries
+length-argon2d : (salt : List ℕ) (passes memory lanes : ℕ)
+    → length (kdfBytes (figures.Argon2d passes memory lanes) salt) ≡ 107 + length salt
+unfolding kdfLength
+length-argon2d salt passes memory lanes = length-kdfBytes (figures.Argon2d passes memory lanes) salt
+
+length-argon2id : (salt : List ℕ) (passes memory lanes : ℕ)
+    → length (kdfBytes (figures.Argon2id passes memory lanes) salt) ≡ 107 + length salt
+unfolding kdfLength
+length-argon2id salt passes memory lanes = length-kdfBytes (figures.Argon2id passes memory lanes) salt
+
+-- the rounds of a dictionary
+module _ (d : List ℕ) (p : Place) (long : itemOf d saltName 0x42 .length ≡ 32)
+    (there : given (itemOf d roundsName 0x05) ≡ true) where
+  most : le 8 d (itemOf d roundsName 0x05 .start) ≡ 4_000_000
+      → aesKdfOf d p
+      ≡ asks.Asks (kdf.AesKdf (record { seed = placeIn p (itemOf d saltName 0x42); rounds = 4_000_000 }))
+  unfolding aesKdfOf
+  most e = rounds-most d p (itemOf d saltName 0x42) (itemOf d roundsName 0x05) long there e
+
+  more : le 8 d (itemOf d roundsName 0x05 .start) ≡ 4_000_001 → aesKdfOf d p ≡ asks.Refused TooManyRounds
+  unfolding aesKdfOf
+  more e = rounds-more d p (itemOf d saltName 0x42) (itemOf d roundsName 0x05) long there e
 
 -- a ciphertext that fits one block, and one that is a block and sixteen bytes
 one-block : (base t : List ℕ) → (length t ≡ 0 → ⊥) → length t ≤ writtenBlock
@@ -92,7 +140,9 @@ worked =
     record {
       header-aes = λ minor seed nonce kdfSeed rounds hs hk hn. length-aes minor seed nonce kdfSeed rounds hs hk hn;
       header-chacha = λ minor seed nonce kdfSeed rounds hs hk hn. length-chacha minor seed nonce kdfSeed rounds hs hk hn;
-      kdf-dictionary = λ kdfSeed rounds hk. length-kdfBytes kdfSeed rounds hk;
+      kdf-dictionary = λ kdfSeed rounds hk. length-kdf 0 kdfSeed [] kdfSeed rounds hk hk;
+      argon2d-dictionary = λ salt passes memory lanes. length-argon2d salt passes memory lanes;
+      argon2id-dictionary = λ salt passes memory lanes. length-argon2id salt passes memory lanes;
       empty-aes = λ g p t. length-plain Aes256 g p t [] 0 refl ∙ file-0;
       empty-chacha = λ g p t. length-plain ChaCha20 g p t [] 0 refl ∙ file-0-chacha;
       one-chacha = λ g p t b e. length-plain ChaCha20 g p t b 1 e ∙ file-1-chacha;
@@ -114,7 +164,7 @@ worked =
       padding-16 = λ k f p h c e n m r l. steps.closing-padding-16 k f p h c e n m r l;
       custom-negative = λ f s at n l c e. custom-negative f s at n l c e;
       custom-long = λ f s at n l c e h. custom-long f s at n l c e h;
-      rounds-most = λ d seed start e. rounds-most d seed start e;
-      rounds-more = λ d seed start e. rounds-more d seed start e;
+      rounds-most = λ d p l h e. most d p l h e;
+      rounds-more = λ d p l h e. more d p l h e;
       eleven = λ s e. header-short s (omega arith);
     }

@@ -1,6 +1,6 @@
 -- Demand 2: "What we write opens to the same payload", whole and block by block, under the same T.
 --
--- g are the figures that are written, c is their cipher, t is T, b the payload.
+-- g are the figures that are written, of any of the three KDFs; c is their cipher, t is T, b the payload.
 -- Assumes nothing.
 use mathlib.Core.Path.{_≡_}
 use mathlib.Core.List.{List}

@@ -1,7 +1,8 @@
 -- Document 01, "Numbers to meet": everything that is marked P, as one table with a field or two for each line.
+-- "document 01's worked sizes are AES-KDF's" (document 02, Item 6); those of Argon2's dictionaries stand beside them.
 -- Assumes nothing.
 use mathlib.Core.Path.{_≡_}
-use mathlib.Core.Bool.{false}
+use mathlib.Core.Bool.{true, false}
 use mathlib.Core.List.{List, [], _∷_, _++_}
 use Prim.Native.Nat.{ℕ, _+_, _≤_}
 use lib.ListN.{length, getD, take, drop}
@@ -10,14 +11,17 @@ use Rattle.refusals.specs.declared.Refusal.the-variants.{CutShort, WrongSize, T
 use Rattle.refusals.specs.declared.Written.the-variants.{Wrote}
 use Rattle.refusals.specs.Limits.{fileLimit, writtenBlock}
 use Rattle.pkcs7.specs.Pkcs7.{padding}
+use Rattle.ciphers.specs.Ciphers.{nonceLength}
 use Rattle.ciphers.specs.declared.Cipher.{Cipher}
 use Rattle.ciphers.specs.declared.Cipher.the-variants.{Aes256, ChaCha20}
+use Rattle.fields.specs.Fields.{given}
 use Rattle.fields.specs.declared.Place.{Place}
 use Rattle.fields.specs.declared.Field.the-variants as field
-use Rattle.kdf_dictionary.specs.Kdf.{kdfBytes}
-use Rattle.dictionary.specs.declared.Found.the-variants as found
-use Rattle.kdf_dictionary.specs.KdfDictionary.{roundsIn}
-use Rattle.kdf_dictionary.specs.declared.Reading.the-variants as kdf
+use Rattle.kdf_dictionary.specs.Kdf.{saltName, roundsName, kdfBytes}
+use Rattle.kdf_dictionary.specs.KdfDictionary.{itemOf, placeIn, aesKdfOf}
+use Rattle.kdf_dictionary.specs.declared.writer.Figures.the-variants as figures
+use Rattle.kdf_dictionary.specs.declared.Kdf.the-variants as kdf
+use Rattle.kdf_dictionary.specs.declared.Reading.the-variants as asks
 use Rattle.outer_header.specs.Kdbx4Header.{seen, fieldHere, header}
 use Rattle.outer_header.specs.declared.walk.Fields.{Fields}
 use Rattle.outer_header.specs.declared.Reading.the-variants as read
@@ -28,20 +32,29 @@ use Rattle.opening.specs.Decryption.{decryptionBy, handed}
 use Rattle.opening.specs.Agreement.{stepAnswers}
 use Rattle.opening.proofs.Worked.{Blocks5And27, ClosingBehind, ciphertext, writtens}
 use Rattle.writer.specs.Written.{Figures, encryptionBy, blocksOf, fileBytes}
-use Rattle.writer.specs.Stretches.{Sized}
 
--- figures of the right sizes, without custom data
+-- AES-KDF with figures of the right sizes, without custom data
 pub record Plain (c : Cipher) (g : Figures) : Type 0 where
-  pub sizes : Sized c (g .seed) (g .nonce) (g .kdfSeed)
+  pub seed-long : length (g .seed) ≡ 32
+  pub nonce-long : length (g .nonce) ≡ nonceLength c
+  pub rounds : ℕ
+  pub aes-kdf : g .kdf ≡ figures.AesKdf rounds
+  pub kdf-seed-long : length (g .salt) ≡ 32
   pub no-custom : g .custom ≡ []
 
 pub record WorkedNumbers : Type 0 where
   -- "AES header without custom data: 207 bytes; ChaCha20: 203; KDF dictionary: 93"
   pub header-aes : (minor : ℕ) (seed nonce kdfSeed : List ℕ) (rounds : ℕ) → length seed ≡ 32 → length kdfSeed ≡ 32
-      → length nonce ≡ 16 → length (headerBytes minor Aes256 seed nonce kdfSeed rounds []) ≡ 207
+      → length nonce ≡ 16 → length (headerBytes minor Aes256 seed nonce (figures.AesKdf rounds) kdfSeed []) ≡ 207
   pub header-chacha : (minor : ℕ) (seed nonce kdfSeed : List ℕ) (rounds : ℕ) → length seed ≡ 32 → length kdfSeed ≡ 32
-      → length nonce ≡ 12 → length (headerBytes minor ChaCha20 seed nonce kdfSeed rounds []) ≡ 203
-  pub kdf-dictionary : (kdfSeed : List ℕ) (rounds : ℕ) → length kdfSeed ≡ 32 → length (kdfBytes kdfSeed rounds) ≡ 93
+      → length nonce ≡ 12 → length (headerBytes minor ChaCha20 seed nonce (figures.AesKdf rounds) kdfSeed []) ≡ 203
+  pub kdf-dictionary : (kdfSeed : List ℕ) (rounds : ℕ) → length kdfSeed ≡ 32
+      → length (kdfBytes (figures.AesKdf rounds) kdfSeed) ≡ 93
+  -- Argon2's dictionaries: 107 bytes and the salt, so 139 with a salt of 32
+  pub argon2d-dictionary : (salt : List ℕ) (passes memory lanes : ℕ)
+      → length (kdfBytes (figures.Argon2d passes memory lanes) salt) ≡ 107 + length salt
+  pub argon2id-dictionary : (salt : List ℕ) (passes memory lanes : ℕ)
+      → length (kdfBytes (figures.Argon2id passes memory lanes) salt) ≡ 107 + length salt
   -- "Empty payload: AES file 359 bytes, ChaCha20 303. ChaCha20, 1 byte: 340"
   pub empty-aes : (g : Figures) → Plain Aes256 g → (t : List ℕ) → length (fileBytes g Aes256 t []) ≡ 359
   pub empty-chacha : (g : Figures) → Plain ChaCha20 g → (t : List ℕ) → length (fileBytes g ChaCha20 t []) ≡ 303
@@ -80,10 +93,13 @@ pub record WorkedNumbers : Type 0 where
       → le 4 s (at + 1) ≡ 0xFFFFFFFF → fieldHere f s at ≡ field.Refused WrongSize
   pub custom-long : (f : Fields) (s : List ℕ) (at : ℕ) → seen f 12 ≡ false → at + 5 ≤ length s → getD s at 0 ≡ 12
       → le 4 s (at + 1) ≡ 0x7FFFFFFF → length s ≤ fileLimit → fieldHere f s at ≡ field.Refused CutShort
-  -- "Rounds 4,000,000 pass, 4,000,001 give 11"
-  pub rounds-most : (d : List ℕ) (seed : Place) (start : ℕ) → le 8 d start ≡ 4_000_000
-      → roundsIn d seed (found.At 0x05 start 8) ≡ kdf.Asks (record { seed = seed; rounds = 4_000_000 })
-  pub rounds-more : (d : List ℕ) (seed : Place) (start : ℕ) → le 8 d start ≡ 4_000_001
-      → roundsIn d seed (found.At 0x05 start 8) ≡ kdf.Refused TooManyRounds
+  -- "Rounds 4,000,000 pass, 4,000,001 give 11", in a dictionary whose `S` has 32 bytes and whose `R` is there
+  pub rounds-most : (d : List ℕ) (p : Place) → itemOf d saltName 0x42 .length ≡ 32
+      → given (itemOf d roundsName 0x05) ≡ true → le 8 d (itemOf d roundsName 0x05 .start) ≡ 4_000_000
+      → aesKdfOf d p
+      ≡ asks.Asks (kdf.AesKdf (record { seed = placeIn p (itemOf d saltName 0x42); rounds = 4_000_000 }))
+  pub rounds-more : (d : List ℕ) (p : Place) → itemOf d saltName 0x42 .length ≡ 32
+      → given (itemOf d roundsName 0x05) ≡ true → le 8 d (itemOf d roundsName 0x05 .start) ≡ 4_000_001
+      → aesKdfOf d p ≡ asks.Refused TooManyRounds
   -- "Eleven bytes of anything: 2"
   pub eleven : (s : List ℕ) → length s ≡ 11 → header s ≡ read.Refused CutShort

@@ -1,11 +1,12 @@
 // Opening a vault by its credentials, as the programs do: from the vault's bytes, the password and the key file to the
 // document, block by block, with the share of rounds that is done on standard error.
 //
-//   composite key | outer header | rounds | start and steps | inner header | document
+//   composite key | outer header | key T | start and steps | inner header | document
 //
 // The payload stands over the front of the lent output, and the answer tells where its document is. The contracts cite
 // specs/Unlocking. Refusals, in order: 1 for an input over a PC program's limit; those of the composite key (18); of
-// the outer header; of the start and the steps; of the inner header. What accepted steps wrote stays.
+// the outer header; of the key (17 for fewer words lent than `words_needed` tells); of the start and the steps; of the
+// inner header. What accepted steps wrote stays. Of the lent words, those that Argon2 used are zeros; all others stay.
 ghost use mathlib.Core.Path.{_≡_};
 ghost use mathlib.Core.Bool.{not};
 ghost use lib.ListN.{length};
@@ -24,8 +25,10 @@ use refusals::Refusal;
 use refusals::Written;
 
 pub mod input;
+mod key;
 pub mod report;
 mod rounds;
+pub mod stack;
 
 // Where the document stands in the output, or why there is none.
 pub enum Unlocked {
@@ -43,19 +46,6 @@ fn is_within(s: &[u8], given: bool) -> bool
     true
 }
 
-// T of a composite key and an accepted header.
-fn key_of(f: &[u8], h: Header, composite: [u8; 32]) -> [u8; 32]
-    requires { ⌜ header (now f) ≡ read.Header h ⌝ }
-    ensures { λ r. ⌜ r ≡ unlocking.keyOf composite (now (f .entry)) h ⌝ }
-{
-    let mut seed = [0u8; 32];
-    slices::copy(
-        &mut seed,
-        slices::part(f, h.kdf.seed.start, h.kdf.seed.length),
-    );
-    rounds::transform(composite, seed, h.kdf.rounds)
-}
-
 // The document's place in a payload.
 fn find_document(payload: &[u8]) -> Unlocked
     ensures { λ r. ⌜ r ≡ unlocking.documentOf (kdbx4.inner (now (payload .entry))) (length (now (payload .entry))) ⌝ }
@@ -66,27 +56,50 @@ fn find_document(payload: &[u8]) -> Unlocked
     }
 }
 
-// Opens a vault whose header is read, by its composite key.
-fn open_with(f: &[u8], h: Header, composite: [u8; 32], out: &mut [u8]) -> Unlocked
-    requires { ⌜ header (now f) ≡ read.Header h ⌝ }
-    ensures { λ r. ⌜ r ≡ unlocking.opening (unlocking.keyOf composite (now (f .entry)) h) (now (f .entry)) (length (now (out .entry))) .answer ⌝ }
-    ensures { λ _. ⌜ now (out .exit) ≡ over (unlocking.opening (unlocking.keyOf composite (now (f .entry)) h) (now (f .entry)) (length (now (out .entry))) .bytes) (now (out .entry)) ⌝ }
+// Opens a vault by T, where that is not refused.
+fn open_under(f: &[u8], outcome: Outcome, t: [u8; 32], out: &mut [u8]) -> Unlocked
+    ensures { λ r. ⌜ r ≡ unlocking.openingUnder outcome t (now (f .entry)) (length (now (out .entry))) .answer ⌝ }
+    ensures { λ _. ⌜ now (out .exit) ≡ over (unlocking.openingUnder outcome t (now (f .entry)) (length (now (out .entry))) .bytes) (now (out .entry)) ⌝ }
 {
-    let t = key_of(f, h, composite);
-    match stepping::open_steps(f, t, out) {
-        Written::Refused(r) => return Unlocked::Refused(r),
-        Written::Wrote(n) => return find_document(slices::part(out, 0, n)),
+    match outcome {
+        Outcome::Refused(r) => return Unlocked::Refused(r),
+        Outcome::Accepted => {
+            match stepping::open_steps(f, t, out) {
+                Written::Refused(r) => return Unlocked::Refused(r),
+                Written::Wrote(n) => return find_document(slices::part(out, 0, n)),
+            }
+        }
     }
 }
 
+// Opens a vault whose header is read, by its composite key.
+fn open_with(
+    f: &[u8],
+    h: Header,
+    composite: [u8; 32],
+    out: &mut [u8],
+    memory: &mut [u64],
+) -> Unlocked
+    requires { ⌜ header (now f) ≡ read.Header h ⌝ }
+    ensures { λ r. ⌜ r ≡ unlocking.openingWith (h .kdf) composite (now (f .entry)) (length (now (out .entry))) (now (memory .entry)) .answer ⌝ }
+    ensures { λ _. ⌜ now (out .exit) ≡ over (unlocking.openingWith (h .kdf) composite (now (f .entry)) (length (now (out .entry))) (now (memory .entry)) .bytes) (now (out .entry)) ⌝ }
+    ensures { λ _. ⌜ now (memory .exit) ≡ unlocking.openingWith (h .kdf) composite (now (f .entry)) (length (now (out .entry))) (now (memory .entry)) .memory ⌝ }
+{
+    let t = key::key_of(f, h, composite, memory);
+    let outcome = t.outcome;
+    let key = t.key;
+    open_under(f, outcome, key, out)
+}
+
 // Opens a vault by its composite key.
-fn open_by(f: &[u8], composite: [u8; 32], out: &mut [u8]) -> Unlocked
-    ensures { λ r. ⌜ r ≡ unlocking.openingBy (header (now (f .entry))) composite (now (f .entry)) (length (now (out .entry))) .answer ⌝ }
-    ensures { λ _. ⌜ now (out .exit) ≡ over (unlocking.openingBy (header (now (f .entry))) composite (now (f .entry)) (length (now (out .entry))) .bytes) (now (out .entry)) ⌝ }
+fn open_by(f: &[u8], composite: [u8; 32], out: &mut [u8], memory: &mut [u64]) -> Unlocked
+    ensures { λ r. ⌜ r ≡ unlocking.openingBy (header (now (f .entry))) composite (now (f .entry)) (length (now (out .entry))) (now (memory .entry)) .answer ⌝ }
+    ensures { λ _. ⌜ now (out .exit) ≡ over (unlocking.openingBy (header (now (f .entry))) composite (now (f .entry)) (length (now (out .entry))) (now (memory .entry)) .bytes) (now (out .entry)) ⌝ }
+    ensures { λ _. ⌜ now (memory .exit) ≡ unlocking.openingBy (header (now (f .entry))) composite (now (f .entry)) (length (now (out .entry))) (now (memory .entry)) .memory ⌝ }
 {
     match outer_header::read(f) {
         Reading::Refused(r) => return Unlocked::Refused(r),
-        Reading::Header(h) => return open_with(f, h, composite, out),
+        Reading::Header(h) => return open_with(f, h, composite, out, memory),
     }
 }
 
@@ -98,9 +111,11 @@ fn open_as(
     key_file: &[u8],
     has_key_file: bool,
     out: &mut [u8],
+    memory: &mut [u64],
 ) -> Unlocked
-    ensures { λ r. ⌜ r ≡ unlocking.openingAs (keys.credential «has_password» (now (password .entry))) (keys.credential «has_key_file» (now («key_file» .entry))) (now (f .entry)) (length (now (out .entry))) .answer ⌝ }
-    ensures { λ _. ⌜ now (out .exit) ≡ over (unlocking.openingAs (keys.credential «has_password» (now (password .entry))) (keys.credential «has_key_file» (now («key_file» .entry))) (now (f .entry)) (length (now (out .entry))) .bytes) (now (out .entry)) ⌝ }
+    ensures { λ r. ⌜ r ≡ unlocking.openingAs (keys.credential «has_password» (now (password .entry))) (keys.credential «has_key_file» (now («key_file» .entry))) (now (f .entry)) (length (now (out .entry))) (now (memory .entry)) .answer ⌝ }
+    ensures { λ _. ⌜ now (out .exit) ≡ over (unlocking.openingAs (keys.credential «has_password» (now (password .entry))) (keys.credential «has_key_file» (now («key_file» .entry))) (now (f .entry)) (length (now (out .entry))) (now (memory .entry)) .bytes) (now (out .entry)) ⌝ }
+    ensures { λ _. ⌜ now (memory .exit) ≡ unlocking.openingAs (keys.credential «has_password» (now (password .entry))) (keys.credential «has_key_file» (now («key_file» .entry))) (now (f .entry)) (length (now (out .entry))) (now (memory .entry)) .memory ⌝ }
 {
     // There is no pre-hash, and the slice that stands for it is not looked at.
     let c = keys::composite(
@@ -115,7 +130,7 @@ fn open_as(
     let key = c.key;
     match outcome {
         Outcome::Refused(r) => return Unlocked::Refused(r),
-        Outcome::Accepted => return open_by(f, key, out),
+        Outcome::Accepted => return open_by(f, key, out, memory),
     }
 }
 
@@ -127,9 +142,11 @@ pub fn unlock(
     key_file: &[u8],
     has_key_file: bool,
     out: &mut [u8],
+    memory: &mut [u64],
 ) -> Unlocked
-    ensures { λ r. ⌜ r ≡ unlocking.unlocked (keys.credential «has_password» (now (password .entry))) (keys.credential «has_key_file» (now («key_file» .entry))) (now (f .entry)) (length (now (out .entry))) .answer ⌝ }
-    ensures { λ _. ⌜ now (out .exit) ≡ over (unlocking.unlocked (keys.credential «has_password» (now (password .entry))) (keys.credential «has_key_file» (now («key_file» .entry))) (now (f .entry)) (length (now (out .entry))) .bytes) (now (out .entry)) ⌝ }
+    ensures { λ r. ⌜ r ≡ unlocking.unlocked (keys.credential «has_password» (now (password .entry))) (keys.credential «has_key_file» (now («key_file» .entry))) (now (f .entry)) (length (now (out .entry))) (now (memory .entry)) .answer ⌝ }
+    ensures { λ _. ⌜ now (out .exit) ≡ over (unlocking.unlocked (keys.credential «has_password» (now (password .entry))) (keys.credential «has_key_file» (now («key_file» .entry))) (now (f .entry)) (length (now (out .entry))) (now (memory .entry)) .bytes) (now (out .entry)) ⌝ }
+    ensures { λ _. ⌜ now (memory .exit) ≡ unlocking.unlocked (keys.credential «has_password» (now (password .entry))) (keys.credential «has_key_file» (now («key_file» .entry))) (now (f .entry)) (length (now (out .entry))) (now (memory .entry)) .memory ⌝ }
 {
     if !is_within(f, true) {
         return Unlocked::Refused(Refusal::TooLong);
@@ -140,5 +157,23 @@ pub fn unlock(
     if !is_within(key_file, has_key_file) {
         return Unlocked::Refused(Refusal::TooLong);
     }
-    open_as(f, password, has_password, key_file, has_key_file, out)
+    open_as(
+        f,
+        password,
+        has_password,
+        key_file,
+        has_key_file,
+        out,
+        memory,
+    )
+}
+
+// How many words of memory the key of a vault needs: none where its header is refused.
+pub fn words_needed(f: &[u8]) -> usize
+    ensures { λ r. ⌜ r ≡ unlocking.wordsNeeded (header (now (f .entry))) ⌝ }
+{
+    match outer_header::read(f) {
+        Reading::Refused(_) => return 0,
+        Reading::Header(h) => return key::words_of(f, h),
+    }
 }

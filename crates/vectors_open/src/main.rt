@@ -4,7 +4,7 @@
 // (crates/vectors, `table`: `-` where there is none). A case that opens gives a row `document name length number
 // digits` (the crate `vectors`), with SHA-256 of the document; one that is refused its name and the line that a
 // technician sees. Behind them stands the line of every refusal, in the order of the numbers: the sentences of
-// docs/REFUSALS.md. tools/vectors_open.py writes stdin, data and stdout.
+// docs/REFUSALS.md. 524,288 words of memory are lent for Argon2. tools/vectors_open.py writes stdin, data and stdout.
 use libc::STDIN_FILENO;
 use libc::STDOUT_FILENO;
 use refusals::Refusal;
@@ -50,6 +50,7 @@ fn case(line: &[u8]) {
 fn open_file(line: &[u8], file: &[u8]) {
     let mut password = io::buffer();
     let mut key_file = io::buffer();
+    let mut memory = [0u64; 524_288];
     let m = bytes(field(line, 2), &mut password);
     let k = bytes(field(line, 3), &mut key_file);
     open_shown(
@@ -57,11 +58,12 @@ fn open_file(line: &[u8], file: &[u8]) {
         file,
         slices::part(&password, 0, m),
         slices::part(&key_file, 0, k),
+        &mut memory,
     );
 }
 
 // Opens a vault, and writes a row of its document, or the line of its refusal.
-fn open_shown(line: &[u8], file: &[u8], password: &[u8], key_file: &[u8]) {
+fn open_shown(line: &[u8], file: &[u8], password: &[u8], key_file: &[u8], memory: &mut [u64]) {
     let mut out = io::large_buffer();
     match unlocking::unlock(
         file,
@@ -70,6 +72,7 @@ fn open_shown(line: &[u8], file: &[u8], password: &[u8], key_file: &[u8]) {
         key_file,
         is_given(field(line, 3)),
         &mut out,
+        memory,
     ) {
         Unlocked::Refused(why) => show_refusal(field(line, 0), why),
         Unlocked::Document(start, end) => show_document(

@@ -3,9 +3,10 @@
 // A row is `name form figure number digits` (the crate `vectors`). The names: `written`, with the length and SHA-256 of
 // a file, or 0 and a refusal's number; `behind`, with the length and SHA-256 of the bytes behind the file, all where it
 // is refused, of an output that was EE; `file`, with a file's bytes, where the form begins with `file-`. The form says
-// what the case is. Standard input has a line for each: `FORM minor cipher master-seed nonce KDF-seed rounds custom T
-// payload room`. A payload that is a number has so many bytes by rule (vectors::pattern). The room is what is lent.
-// tools/vectors_writer.py writes stdin and stdout, by a writer of its own.
+// what the case is. Standard input has a line for each: `FORM minor cipher master-seed nonce KDF salt figures custom T
+// payload room`. The KDF is 0 for AES-KDF, 1 for Argon2d and 2 for Argon2id; its figures are three numbers: rounds, 0
+// and 0, or passes, memory and lanes. A payload that is a number has so many bytes by rule (vectors::pattern). The room
+// is what is lent. tools/vectors_writer.py writes stdin and stdout, by a writer of its own.
 ghost use mathlib.Core.Path.{_≡_};
 ghost use lib.ListN.{length};
 use libc::STDIN_FILENO;

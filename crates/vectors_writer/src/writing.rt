@@ -2,6 +2,7 @@
 ghost use mathlib.Core.Path.{_≡_};
 ghost use Prim.Native.Nat.{_≤_};
 ghost use lib.ListN.{length};
+use kdf_dictionary::writer::Figures;
 use refusals::Written;
 use vectors::table::bytes;
 use vectors::table::field;
@@ -9,7 +10,7 @@ use vectors::table::number;
 
 // The rows of a line, whose payload is given or by rule.
 pub fn line(line: &[u8], pattern: &[u8]) {
-    let text = field(line, 9);
+    let text = field(line, 12);
     if vectors::table::is_given(text) {
         let mut space = io::large_buffer();
         let n = bytes(text, &mut space);
@@ -22,30 +23,30 @@ pub fn line(line: &[u8], pattern: &[u8]) {
 // The rows of a line and its payload.
 fn with_payload(line: &[u8], payload: &[u8]) {
     let mut seed = [0u8; 64];
-    let mut kdf_seed = [0u8; 64];
+    let mut salt = [0u8; 128];
     let s = bytes(field(line, 3), &mut seed);
-    let k = bytes(field(line, 5), &mut kdf_seed);
+    let k = bytes(field(line, 6), &mut salt);
     with_seeds(
         line,
         payload,
         vectors::first(&seed, s),
-        vectors::first(&kdf_seed, k),
+        vectors::first(&salt, k),
     );
 }
 
-// The rows of a line, its payload and seeds.
-fn with_seeds(line: &[u8], payload: &[u8], seed: &[u8], kdf_seed: &[u8]) {
+// The rows of a line, its payload, seed and salt.
+fn with_seeds(line: &[u8], payload: &[u8], seed: &[u8], salt: &[u8]) {
     let mut cipher = [0u8; 64];
     let mut nonce = [0u8; 64];
     let mut custom = [0u8; 256];
     let c = bytes(field(line, 2), &mut cipher);
     let n = bytes(field(line, 4), &mut nonce);
-    let d = bytes(field(line, 7), &mut custom);
+    let d = bytes(field(line, 10), &mut custom);
     write(
         line,
         payload,
         seed,
-        kdf_seed,
+        salt,
         vectors::first(&cipher, c),
         vectors::first(&nonce, n),
         vectors::first(&custom, d),
@@ -57,22 +58,13 @@ fn write(
     line: &[u8],
     payload: &[u8],
     seed: &[u8],
-    kdf_seed: &[u8],
+    salt: &[u8],
     cipher: &[u8],
     nonce: &[u8],
     custom: &[u8],
 ) {
     let mut out = output(0xEE);
-    write_to(
-        line,
-        payload,
-        seed,
-        kdf_seed,
-        cipher,
-        nonce,
-        custom,
-        &mut out,
-    );
+    write_to(line, payload, seed, salt, cipher, nonce, custom, &mut out);
 }
 
 // The rows of a line, all its bytes and an output, of which the line's room is lent.
@@ -80,29 +72,52 @@ fn write_to(
     line: &[u8],
     payload: &[u8],
     seed: &[u8],
-    kdf_seed: &[u8],
+    salt: &[u8],
     cipher: &[u8],
     nonce: &[u8],
     custom: &[u8],
     out: &mut [u8],
 ) {
     let minor = (number(field(line, 1)) % 0x1_0000) as u16;
-    let rounds = number(field(line, 6));
-    let t = vectors::table::array(field(line, 8));
-    let room = room_of(number(field(line, 10)) as usize, out.len());
+    let figures = figures_of(line);
+    let t = vectors::table::array(field(line, 11));
+    let room = room_of(number(field(line, 13)) as usize, out.len());
     let w = writer::write(
         minor,
         cipher,
         seed,
         nonce,
-        kdf_seed,
-        rounds,
+        figures,
+        salt,
         custom,
         t,
         payload,
         &mut out[..room],
     );
     show(field(line, 0), w, out);
+}
+
+// The figures of a line's KDF.
+fn figures_of(line: &[u8]) -> Figures {
+    let kdf = number(field(line, 5));
+    let first = number(field(line, 7));
+    let memory = number(field(line, 8));
+    let lanes = (number(field(line, 9)) % 0x1_0000_0000) as u32;
+    if kdf == 0 {
+        return Figures::AesKdf { rounds: first };
+    }
+    if kdf == 1 {
+        return Figures::Argon2d {
+            passes: first,
+            memory: memory,
+            lanes: lanes,
+        };
+    }
+    Figures::Argon2id {
+        passes: first,
+        memory: memory,
+        lanes: lanes,
+    }
 }
 
 // Room for any case's file.

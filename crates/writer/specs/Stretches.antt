@@ -5,7 +5,7 @@
 --   blocksAt, blocksLength     the blocks from a number on, and how long they are
 --   summed                     a header with its hash and tag
 --   fileLength, fileOf         how long the file is, and the file
---   Sized                      what the header's checks say of seeds and nonce
+--   Sized                      what the header's checks say of seed, nonce and salt
 --   settled, bytesOf           the answer for a file of some length, and the bytes written with it
 -- A stretch stands behind the ciphertext piece v (at first the nonce), its first byte at position p of the text.
 -- Not here: the file (Written).
@@ -13,7 +13,7 @@
 use mathlib.Core.Path.{_≡_}
 use mathlib.Core.Bool.{cond}
 use mathlib.Core.List.{List, [], _++_}
-use Prim.Native.Nat.{ℕ, _+_, _-_, _*_, _/_}
+use Prim.Native.Nat.{ℕ, _+_, _-_, _*_, _/_, _≤_}
 use lib.Dec.{leb, ltb}
 use lib.ListN.{length}
 use Rattle.slices.specs.Over.{over}
@@ -27,6 +27,7 @@ use Rattle.pkcs7.specs.Pkcs7.{pad, paddingLength}
 use Rattle.ciphers.specs.Ciphers.{nonceLength}
 use Rattle.ciphers.specs.declared.Cipher.{Cipher}
 use Rattle.ciphers.specs.declared.Cipher.the-variants.{Aes256, ChaCha20}
+use Rattle.kdf_dictionary.specs.declared.writer.Figures.{Figures as KdfFigures}
 use Rattle.header_writer.specs.Written.{headerBytes, headerLength}
 use Rattle.opening.specs.declared.Keys.{Keys}
 use Rattle.opening.specs.Decryption.{chaChaFrom}
@@ -65,24 +66,24 @@ lastBlocks k v i p b = blocksAt (k .base) i (stretchBy (k .cipher) k v p (textOf
 unfoldable pub blocksLength : ℕ → ℕ
 blocksLength n = n + 36 * ((n + (writtenBlock - 1)) / writtenBlock + 1)
 
--- the file of a custom dictionary of m bytes and a payload of n bytes
-unfoldable pub fileLength : Cipher → ℕ → ℕ → ℕ
-fileLength c m n = headerLength c m + 64 + blocksLength (textLength c n)
+-- the file of a seed or salt of l bytes, a custom dictionary of m and a payload of n
+unfoldable pub fileLength : Cipher → KdfFigures → ℕ → ℕ → ℕ → ℕ
+fileLength c fig l m n = headerLength c fig l m + 64 + blocksLength (textLength c n)
 
 -- a header with its hash and its tag
 abbrev pub summed : List ℕ → List ℕ → List ℕ
 summed base h = h ++ headerHash h ++ headerTag base h
 
 -- the file of figures, with T and the payload b
-abbrev pub fileOf : ℕ → Cipher → List ℕ → List ℕ → List ℕ → ℕ → List ℕ → List ℕ → List ℕ → List ℕ
-fileOf minor c seed nonce kdfSeed rounds custom t b =
-    fileWith (headerBytes minor c seed nonce kdfSeed rounds custom) c (keysWith c seed (padded nonce) t) b
+abbrev pub fileOf : ℕ → Cipher → List ℕ → List ℕ → KdfFigures → List ℕ → List ℕ → List ℕ → List ℕ → List ℕ
+fileOf minor c seed nonce fig salt custom t b =
+    fileWith (headerBytes minor c seed nonce fig salt custom) c (keysWith c seed (padded nonce) t) b
 
--- master seed s, nonce n and KDF seed ks of the right sizes
-pub record Sized (c : Cipher) (s n ks : List ℕ) : Type 0 where
+-- master seed s and nonce n of the right sizes, the KDF's seed or salt no longer than any KDF takes
+pub record Sized (c : Cipher) (s n salt : List ℕ) : Type 0 where
   pub seed : length s ≡ 32
   pub nonce : length n ≡ nonceLength c
-  pub kdfSeed : length ks ≡ 32
+  pub salt-le : length salt ≤ 64
 
 -- a payload of b bytes and its file of f bytes, n bytes lent
 unfoldable pub settled : ℕ → ℕ → ℕ → Written

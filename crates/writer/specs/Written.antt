@@ -1,7 +1,9 @@
--- The vault that is written: document 01, "File after the header".
+-- The vault that is written: document 01, "File after the header"; document 02, Item 6.
 --
---   "The writer takes minor version, cipher, both seeds, nonce, rounds, custom dictionary .., T and payload"    Figures
---   "Order: 4, 9, 5 (seeds, nonce), 11, 10 or 6, 1, 17"                                                         writing
+--   "The writer takes minor version, cipher, both seeds, nonce, rounds, custom dictionary .., T and payload";
+--   "the writer writes all three" KDFs, each with its own figures                                               Figures
+--   "Order: 4, 9, 5 (seeds, nonce), 11, 10 or 6, 1, 17"; Argon2's 22 in 11's place, "the writer's salt length
+--   included"                                                                                                   writing
 --   "written block: 16,384 bytes of ciphertext", "all data blocks are full except perhaps the last",
 --   "A block of size 0 closes"                                                                                  blocksFrom
 --   "Each block is written directly behind the bytes already laid down"                                         fileBytes
@@ -21,6 +23,7 @@ use Rattle.aes_cbc.specs.Aes256Cbc as aes256Cbc
 use Rattle.pkcs7.specs.Pkcs7.{pad}
 use Rattle.ciphers.specs.declared.Cipher.{Cipher}
 use Rattle.ciphers.specs.declared.Cipher.the-variants.{Aes256, ChaCha20}
+use Rattle.kdf_dictionary.specs.declared.writer.Figures.{Figures as KdfFigures}
 use Rattle.header_writer.specs.Written.{headerBytes, checked}
 use Rattle.header_writer.specs.declared.Checked.{Checked}
 use Rattle.header_writer.specs.declared.Checked.the-variants.{As, Refused}
@@ -30,25 +33,26 @@ use Rattle.opening.specs.Decryption.{chaChaFrom}
 use Rattle.opening.specs.Steps.{padded}
 use Rattle.vault_keys.specs.VaultKeys.{keysWith, headerHash, headerTag}
 
--- what is written: minor version, cipher's identifier, master seed, nonce, KDF seed, rounds, custom dictionary
+-- what is written: minor version, cipher's identifier, master seed, nonce, the KDF's figures, its seed or salt, custom
+-- dictionary
 pub record Figures : Type 0 where
   pub minor : ℕ
   pub cipher : List ℕ
   pub seed : List ℕ
   pub nonce : List ℕ
-  pub kdfSeed : List ℕ
-  pub rounds : ℕ
+  pub kdf : KdfFigures
+  pub salt : List ℕ
   pub custom : List ℕ
 
-abbrev pub figures : ℕ → List ℕ → List ℕ → List ℕ → List ℕ → ℕ → List ℕ → Figures
-figures minor cipher seed nonce kdfSeed rounds custom =
+abbrev pub figures : ℕ → List ℕ → List ℕ → List ℕ → KdfFigures → List ℕ → List ℕ → Figures
+figures minor cipher seed nonce kdf salt custom =
     record {
       minor = minor;
       cipher = cipher;
       seed = seed;
       nonce = nonce;
-      kdfSeed = kdfSeed;
-      rounds = rounds;
+      kdf = kdf;
+      salt = salt;
       custom = custom;
     }
 
@@ -70,7 +74,7 @@ blocksOf base t = blocksFrom (length t) base 0 t
 
 -- the header of figures, with their cipher
 unfoldable pub headerOf : Figures → Cipher → List ℕ
-headerOf g c = headerBytes (g .minor) c (g .seed) (g .nonce) (g .kdfSeed) (g .rounds) (g .custom)
+headerOf g c = headerBytes (g .minor) c (g .seed) (g .nonce) (g .kdf) (g .salt) (g .custom)
 
 -- header, its hash, its tag, blocks
 unfoldable pub fileWith : List ℕ → Cipher → Keys → List ℕ → List ℕ
@@ -90,7 +94,7 @@ writingBy (As c) g t b n =
     (written.Refused TooLong)
 
 unfoldable pub checkedOf : Figures → Checked
-checkedOf g = checked (g .minor) (g .cipher) (g .seed) (g .nonce) (g .kdfSeed) (g .rounds) (g .custom)
+checkedOf g = checked (g .minor) (g .cipher) (g .seed) (g .nonce) (g .kdf) (g .salt) (g .custom)
 
 -- the writer's answer with n bytes lent
 unfoldable pub writing : Figures → List ℕ → List ℕ → ℕ → Written

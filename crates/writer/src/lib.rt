@@ -3,9 +3,9 @@
 //   header | its hash (32 bytes) | its tag (32 bytes) | data blocks | closing block
 //
 // `write` makes every check before it writes a byte: what is refused leaves the lent slice as it was. The contract
-// cites specs/Written. Refusals: 4, 9, 5, 11, then 10 or 6, then 1 and 17, in this order. The nonce and the seeds are
-// the caller's: nothing here makes them, and the payload is not looked at. AES-256's table look-ups are not
-// constant-time.
+// cites specs/Written. Refusals: 4, 9, 5, 11 of AES-KDF or 22 of Argon2, then 10 or 6, then 1 and 17, in this order. A
+// KDF is one of three with its own figures (document 02, Item 6). The nonce, the seeds and the salt are the caller's:
+// nothing here makes them, and the payload is not looked at. AES-256's table look-ups are not constant-time.
 ghost use mathlib.Core.Path.{_≡_};
 ghost use Prim.Native.Nat.{_+_, _≤_};
 ghost use lib.ListN.{length, take};
@@ -18,6 +18,7 @@ ghost use Rattle.writer.specs.Written as kdbx4;
 ghost use Rattle.writer.specs.Stretches as stretches;
 use ciphers::Cipher;
 use header_writer::Checked;
+use kdf_dictionary::writer::Figures;
 use opening::Keys;
 use refusals::Refusal;
 use refusals::Written;
@@ -25,14 +26,15 @@ use refusals::Written;
 mod blocks;
 
 // How many bytes a file has.
-fn file_len(c: Cipher, custom: &[u8], n: usize) -> usize
+fn file_len(c: Cipher, figures: Figures, salt: &[u8], custom: &[u8], n: usize) -> usize
+    requires { ⌜ length (now salt) ≤ 64 ⌝ }
     requires { ⌜ n ≤ payloadLimit ⌝ }
-    ensures { λ r. ⌜ r ≡ stretches.fileLength c (length (now (custom .entry))) n ⌝ }
+    ensures { λ r. ⌜ r ≡ stretches.fileLength c figures (length (now (salt .entry))) (length (now (custom .entry))) n ⌝ }
 {
     let text = blocks::text_len(c, n);
     let size = refusals::limits::written_block();
     let count = (text + (size - 1)) / size + 1;
-    header_writer::header_len(c, custom) + 64 + (text + 36 * count)
+    header_writer::header_len(c, figures, salt, custom) + 64 + (text + 36 * count)
 }
 
 // A seed's bytes.
@@ -84,22 +86,21 @@ fn write_front(
     c: Cipher,
     seed: &[u8],
     nonce: &[u8],
-    kdf_seed: &[u8],
-    rounds: u64,
+    figures: Figures,
+    salt: &[u8],
     custom: &[u8],
     base: [u8; 64],
     out: &mut [u8],
 ) -> usize
-    requires { ⌜ stretches.Sized c (now seed) (now nonce) (now «kdf_seed») ⌝ }
-    requires { ⌜ headerLength c (length (now custom)) ≤ fileLimit ⌝ }
-    requires { ⌜ headerLength c (length (now custom)) + 64 ≤ length (now out) ⌝ }
-    ensures { λ r. ⌜ r ≡ headerLength c (length (now (custom .entry))) + 64 ⌝ }
-    ensures { λ _. ⌜ now (out .exit) ≡ over (stretches.summed base (headerBytes minor c (now (seed .entry)) (now (nonce .entry)) (now («kdf_seed» .entry)) rounds (now (custom .entry)))) (now (out .entry)) ⌝ }
+    requires { ⌜ stretches.Sized c (now seed) (now nonce) (now salt) ⌝ }
+    requires { ⌜ headerLength c figures (length (now salt)) (length (now custom)) ≤ fileLimit ⌝ }
+    requires { ⌜ headerLength c figures (length (now salt)) (length (now custom)) + 64 ≤ length (now out) ⌝ }
+    ensures { λ r. ⌜ r ≡ headerLength c figures (length (now (salt .entry))) (length (now (custom .entry))) + 64 ⌝ }
+    ensures { λ _. ⌜ now (out .exit) ≡ over (stretches.summed base (headerBytes minor c (now (seed .entry)) (now (nonce .entry)) figures (now (salt .entry)) (now (custom .entry)))) (now (out .entry)) ⌝ }
 {
     let s = seed_of(seed);
-    let k = seed_of(kdf_seed);
-    let h = header_writer::header_len(c, custom);
-    header_writer::write(minor, c, s, nonce, k, rounds, custom, out);
+    let h = header_writer::header_len(c, figures, salt, custom);
+    header_writer::write(minor, c, s, nonce, figures, salt, custom, out);
     write_sums(base, h, out);
     h + 64
 }
@@ -110,21 +111,21 @@ fn write_file(
     c: Cipher,
     seed: &[u8],
     nonce: &[u8],
-    kdf_seed: &[u8],
-    rounds: u64,
+    figures: Figures,
+    salt: &[u8],
     custom: &[u8],
     t: [u8; 32],
     payload: &[u8],
     out: &mut [u8],
 )
-    requires { ⌜ stretches.Sized c (now seed) (now nonce) (now «kdf_seed») ⌝ }
-    requires { ⌜ stretches.fileLength c (length (now custom)) (length (now payload)) ≤ fileLimit ⌝ }
-    requires { ⌜ stretches.fileLength c (length (now custom)) (length (now payload)) ≤ length (now out) ⌝ }
-    ensures { λ _. ⌜ now (out .exit) ≡ over (stretches.fileOf minor c (now (seed .entry)) (now (nonce .entry)) (now («kdf_seed» .entry)) rounds (now (custom .entry)) t (now (payload .entry))) (now (out .entry)) ⌝ }
+    requires { ⌜ stretches.Sized c (now seed) (now nonce) (now salt) ⌝ }
+    requires { ⌜ stretches.fileLength c figures (length (now salt)) (length (now custom)) (length (now payload)) ≤ fileLimit ⌝ }
+    requires { ⌜ stretches.fileLength c figures (length (now salt)) (length (now custom)) (length (now payload)) ≤ length (now out) ⌝ }
+    ensures { λ _. ⌜ now (out .exit) ≡ over (stretches.fileOf minor c (now (seed .entry)) (now (nonce .entry)) figures (now (salt .entry)) (now (custom .entry)) t (now (payload .entry))) (now (out .entry)) ⌝ }
 {
     let keys = keys_of(c, seed, nonce, t);
     let base = keys.base;
-    let at = write_front(minor, c, seed, nonce, kdf_seed, rounds, custom, base, out);
+    let at = write_front(minor, c, seed, nonce, figures, salt, custom, base, out);
     blocks::write_blocks(keys, payload, &mut out[at..]);
 }
 
@@ -134,20 +135,20 @@ fn write_checked(
     c: Cipher,
     seed: &[u8],
     nonce: &[u8],
-    kdf_seed: &[u8],
-    rounds: u64,
+    figures: Figures,
+    salt: &[u8],
     custom: &[u8],
     t: [u8; 32],
     payload: &[u8],
     out: &mut [u8],
 ) -> Written
-    requires { ⌜ stretches.Sized c (now seed) (now nonce) (now «kdf_seed») ⌝ }
-    ensures { λ r. ⌜ r ≡ stretches.settled (length (now (payload .entry))) (length (stretches.fileOf minor c (now (seed .entry)) (now (nonce .entry)) (now («kdf_seed» .entry)) rounds (now (custom .entry)) t (now (payload .entry)))) (length (now (out .entry))) ⌝ }
-    ensures { λ r. ⌜ now (out .exit) ≡ over (stretches.bytesOf r (stretches.fileOf minor c (now (seed .entry)) (now (nonce .entry)) (now («kdf_seed» .entry)) rounds (now (custom .entry)) t (now (payload .entry)))) (now (out .entry)) ⌝ }
+    requires { ⌜ stretches.Sized c (now seed) (now nonce) (now salt) ⌝ }
+    ensures { λ r. ⌜ r ≡ stretches.settled (length (now (payload .entry))) (length (stretches.fileOf minor c (now (seed .entry)) (now (nonce .entry)) figures (now (salt .entry)) (now (custom .entry)) t (now (payload .entry)))) (length (now (out .entry))) ⌝ }
+    ensures { λ r. ⌜ now (out .exit) ≡ over (stretches.bytesOf r (stretches.fileOf minor c (now (seed .entry)) (now (nonce .entry)) figures (now (salt .entry)) (now (custom .entry)) t (now (payload .entry)))) (now (out .entry)) ⌝ }
 {
     let n = payload.len();
     if refusals::limits::payload_fits(n) {
-        let f = file_len(c, custom, n);
+        let f = file_len(c, figures, salt, custom, n);
         if refusals::limits::file_fits(f) {
             if out.len() < f {
                 return Written::Refused(Refusal::NoRoom);
@@ -157,8 +158,8 @@ fn write_checked(
                 c,
                 seed,
                 nonce,
-                kdf_seed,
-                rounds,
+                figures,
+                salt,
                 custom,
                 t,
                 payload,
@@ -171,32 +172,32 @@ fn write_checked(
     Written::Refused(Refusal::TooLong)
 }
 
-// Writes the vault of minor version, cipher's identifier, master seed, nonce, KDF seed, rounds, custom dictionary (of
-// no bytes where it is absent), T and payload over the front of `out`.
+// Writes the vault of minor version, cipher's identifier, master seed, nonce, the KDF's figures, its seed or salt,
+// custom dictionary (of no bytes where it is absent), T and payload over the front of `out`.
 pub fn write(
     minor: u16,
     cipher: &[u8],
     seed: &[u8],
     nonce: &[u8],
-    kdf_seed: &[u8],
-    rounds: u64,
+    figures: Figures,
+    salt: &[u8],
     custom: &[u8],
     t: [u8; 32],
     payload: &[u8],
     out: &mut [u8],
 ) -> Written
-    ensures { λ r. ⌜ r ≡ kdbx4.writing (kdbx4.figures minor (now (cipher .entry)) (now (seed .entry)) (now (nonce .entry)) (now («kdf_seed» .entry)) rounds (now (custom .entry))) t (now (payload .entry)) (length (now (out .entry))) ⌝ }
-    ensures { λ _. ⌜ now (out .exit) ≡ over (kdbx4.shown (kdbx4.figures minor (now (cipher .entry)) (now (seed .entry)) (now (nonce .entry)) (now («kdf_seed» .entry)) rounds (now (custom .entry))) t (now (payload .entry)) (length (now (out .entry)))) (now (out .entry)) ⌝ }
+    ensures { λ r. ⌜ r ≡ kdbx4.writing (kdbx4.figures minor (now (cipher .entry)) (now (seed .entry)) (now (nonce .entry)) figures (now (salt .entry)) (now (custom .entry))) t (now (payload .entry)) (length (now (out .entry))) ⌝ }
+    ensures { λ _. ⌜ now (out .exit) ≡ over (kdbx4.shown (kdbx4.figures minor (now (cipher .entry)) (now (seed .entry)) (now (nonce .entry)) figures (now (salt .entry)) (now (custom .entry))) t (now (payload .entry)) (length (now (out .entry)))) (now (out .entry)) ⌝ }
 {
-    match header_writer::check(minor, cipher, seed, nonce, kdf_seed, rounds, custom) {
+    match header_writer::check(minor, cipher, seed, nonce, figures, salt, custom) {
         Checked::Refused(r) => return Written::Refused(r),
         Checked::As(c) => return write_checked(
             minor,
             c,
             seed,
             nonce,
-            kdf_seed,
-            rounds,
+            figures,
+            salt,
             custom,
             t,
             payload,

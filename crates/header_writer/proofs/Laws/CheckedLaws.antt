@@ -17,7 +17,10 @@ use Rattle.ciphers.specs.Ciphers.{cipherOf, nonceLength}
 use Rattle.ciphers.specs.declared.Cipher.{Cipher}
 use Rattle.ciphers.specs.declared.Identified.{Identified}
 use Rattle.ciphers.specs.declared.Identified.the-variants as identified
-use Rattle.header_writer.specs.Written.{customVerdict, checkedCustom, checkedSizes, checkedCipher, checked}
+use Rattle.kdf_dictionary.specs.Kdf.{IsWritable}
+use Rattle.kdf_dictionary.specs.declared.writer.Figures.{Figures}
+use Rattle.kdf_dictionary.specs.declared.writer.Figures.the-variants as figures
+use Rattle.header_writer.specs.Written.{customVerdict, checkedCustom, saltSized, checkedFigures, checkedSizes, checkedCipher, checked}
 use Rattle.header_writer.specs.declared.Checked.{Checked}
 use Rattle.header_writer.specs.declared.Checked.the-variants.{As, Refused}
 
@@ -25,14 +28,13 @@ refused-never : (r : Refusal) (c : Cipher) → Refused r ≡ As c → ⊥
 refused-never r c e = let z : _≡_ {A = ℕ} 0 1 = cc in omega arith
 
 -- the checks, passed
-pub record IsChecked (minor : ℕ) (id seed nonce kdfSeed : List ℕ) (rounds : ℕ) (custom : List ℕ) (c : Cipher)
+pub record IsChecked (minor : ℕ) (id seed nonce : List ℕ) (fig : Figures) (salt custom : List ℕ) (c : Cipher)
     : Type 0 where
   pub minor-le : minor ≤ 1
   pub cipher-is : cipherOf id ≡ identified.As c
   pub seed-long : length seed ≡ 32
   pub nonce-long : length nonce ≡ nonceLength c
-  pub kdf-seed-long : length kdfSeed ≡ 32
-  pub rounds-le : rounds ≤ roundsLimit
+  pub writable : IsWritable fig (length salt)
   pub custom-sound : customVerdict custom ≡ outcome.Accepted
 
 -- a test before a check
@@ -45,36 +47,45 @@ unfolding checkedCustom
 checkedCustom-as c d outcome.Accepted e = (cc, refl)
 checkedCustom-as c d (outcome.Refused r) e = absurd (refused-never r c e)
 
-module _ (minor : ℕ) (id seed nonce kdfSeed : List ℕ) (rounds : ℕ) (custom : List ℕ) (c : Cipher) where
+checkedFigures-as : (c d : Cipher) (fig : Figures) (salt custom : List ℕ) → saltSized fig (length salt) ≡ true
+    → checkedFigures d fig salt custom ≡ As c
+    → IsWritable fig (length salt) × (checkedCustom d (customVerdict custom) ≡ As c)
+unfolding saltSized checkedFigures IsWritable
+checkedFigures-as c d (figures.AesKdf rounds) salt custom h e =
+    let w = cond-as _ _ _ c e in
+    ((eqb-true (length salt) 32 h, leb-true rounds roundsLimit (w .0)), w .1)
+checkedFigures-as c d (figures.Argon2d passes memory lanes) salt custom h e = cond-as _ _ _ c e
+checkedFigures-as c d (figures.Argon2id passes memory lanes) salt custom h e = cond-as _ _ _ c e
+
+module _ (minor : ℕ) (id seed nonce : List ℕ) (fig : Figures) (salt custom : List ℕ) (c : Cipher) where
   checkedSizes-as : (d : Cipher) → minor ≤ 1 → cipherOf id ≡ identified.As d
-      → checkedSizes d seed nonce kdfSeed rounds custom ≡ As c
-      → IsChecked minor id seed nonce kdfSeed rounds custom c
+      → checkedSizes d seed nonce fig salt custom ≡ As c
+      → IsChecked minor id seed nonce fig salt custom c
   unfolding checkedSizes
   checkedSizes-as d m i e =
       let t = cond-as _ _ _ c e in
       let u = cond-as _ _ _ c (t .1) in
       let v = cond-as _ _ _ c (u .1) in
-      let w = cond-as _ _ _ c (v .1) in
+      let w = checkedFigures-as c d fig salt custom (v .0) (v .1) in
       let x = checkedCustom-as c d (customVerdict custom) (w .1) in
       record {
         minor-le = m;
         cipher-is = i ∙ ap (λ (y : Cipher). identified.As y) (x .0);
         seed-long = eqb-true (length seed) 32 (t .0);
         nonce-long = eqb-true (length nonce) (nonceLength d) (u .0) ∙ ap nonceLength (x .0);
-        kdf-seed-long = eqb-true (length kdfSeed) 32 (v .0);
-        rounds-le = leb-true rounds roundsLimit (w .0);
+        writable = w .0;
         custom-sound = x .1;
       }
 
   checkedCipher-as : (d : Identified) → minor ≤ 1 → cipherOf id ≡ d
-      → checkedCipher d seed nonce kdfSeed rounds custom ≡ As c
-      → IsChecked minor id seed nonce kdfSeed rounds custom c
+      → checkedCipher d seed nonce fig salt custom ≡ As c
+      → IsChecked minor id seed nonce fig salt custom c
   unfolding checkedCipher
   checkedCipher-as identified.Unlisted m i e = absurd (refused-never _ c e)
   checkedCipher-as (identified.As d) m i e = checkedSizes-as d m i e
 
-  pub checked-as : checked minor id seed nonce kdfSeed rounds custom ≡ As c
-      → IsChecked minor id seed nonce kdfSeed rounds custom c
+  pub checked-as : checked minor id seed nonce fig salt custom ≡ As c
+      → IsChecked minor id seed nonce fig salt custom c
   unfolding checked
   checked-as e =
       let t = cond-as _ _ _ c e in

@@ -6,7 +6,7 @@
 -- Not here: the walk over them (RoundTrip).
 -- Assumes nothing.
 use mathlib.Core.Path.{_≡_, refl, ap, _∙_}
-use mathlib.Core.Bool.{true, false}
+use mathlib.Core.Bool.{true, false, cond}
 use mathlib.Core.List.{List, [], _++_, append-assoc, append-nil}
 use Prim.Native.Nat.{ℕ, zero, suc, _+_, _≤_}
 use native.Mathlib.Omega.{arith}
@@ -19,8 +19,9 @@ use Rattle.fields.proofs.Laws.Written.{length-fieldBytes}
 use Rattle.ciphers.specs.Ciphers.{identifier, nonceLength}
 use Rattle.ciphers.specs.declared.Cipher.{Cipher}
 use Rattle.ciphers.proofs.Laws.{length-identifier}
-use Rattle.kdf_dictionary.specs.Kdf.{kdfBytes}
-use Rattle.kdf_dictionary.proofs.Laws.Kdf.{length-kdfBytes}
+use Rattle.kdf_dictionary.specs.Kdf.{kdfBytes, kdfLength}
+use Rattle.kdf_dictionary.specs.declared.writer.Figures.{Figures}
+use Rattle.kdf_dictionary.proofs.Laws.Layout.{length-kdfBytes}
 use Rattle.header_writer.specs.Written.{
   versionBytes,
   endBytes,
@@ -47,7 +48,7 @@ length-more : (s : List ℕ) (id : ℕ) (v : List ℕ) (m n k : ℕ) → length 
 length-more s id v m n k e f g = rw (length-append, length-fieldBytes, e, f) (omega arith)
 
 -- s begins as a header with these values does
-pub record HasFields (minor : ℕ) (c : Cipher) (seed nonce kdf custom s : List ℕ) : Type 0 where
+pub record HasFields (minor : ℕ) (c : Cipher) (seed nonce kdf custom s : List ℕ) (kl : ℕ) : Type 0 where
   pub first-is : le 4 s 0 ≡ 0x9AA2D903
   pub second-is : le 4 s 4 ≡ 0xB54BFB67
   pub version-is : le 4 s 8 ≡ 0x40000 + minor
@@ -55,19 +56,23 @@ pub record HasFields (minor : ℕ) (c : Cipher) (seed nonce kdf custom s : List 
   pub compression-lies : Lies s 33 3 noCompression (record { start = 38; length = 4 })
   pub seed-lies : Lies s 42 4 seed (record { start = 47; length = 32 })
   pub nonce-lies : Lies s 79 7 nonce (record { start = 84; length = nonceLength c })
-  pub kdf-lies : Lies s (84 + nonceLength c) 11 kdf (record { start = 89 + nonceLength c; length = 93 })
+  pub kdf-lies : Lies s (84 + nonceLength c) 11 kdf (record { start = 89 + nonceLength c; length = kl })
   pub end-lies : eqb (length custom) 0 ≡ true
-      → Lies s (182 + nonceLength c) 0 endBytes (record { start = 187 + nonceLength c; length = 4 })
+      → Lies s (89 + nonceLength c + kl) 0 endBytes (record { start = 94 + nonceLength c + kl; length = 4 })
   pub custom-lies : eqb (length custom) 0 ≡ false
-      → Lies s (182 + nonceLength c) 12 custom (record { start = 187 + nonceLength c; length = length custom })
+      → Lies s (89 + nonceLength c + kl) 12 custom (record { start = 94 + nonceLength c + kl; length = length custom })
   pub custom-end-lies : eqb (length custom) 0 ≡ false
-      → Lies s (187 + nonceLength c + length custom) 0 endBytes
-      (record { start = 192 + nonceLength c + length custom; length = 4 })
-  pub long : headerLength c (length custom) ≤ length s
+      → Lies s (94 + nonceLength c + kl + length custom) 0 endBytes
+      (record { start = 99 + nonceLength c + kl + length custom; length = 4 })
+  pub long : 98 + nonceLength c + kl + cond (eqb (length custom) 0) 0 (5 + length custom) ≤ length s
 
-module _ (minor : ℕ) (c : Cipher) (seed nonce kdfSeed : List ℕ) (rounds : ℕ) (custom rest s : List ℕ)
-    (whole : s ≡ headerBytes minor c seed nonce kdfSeed rounds custom ++ rest) (seed-long : length seed ≡ 32)
-    (nonce-long : length nonce ≡ nonceLength c) (kdf-seed-long : length kdfSeed ≡ 32) where
+module _ (minor : ℕ) (c : Cipher) (seed nonce : List ℕ) (fig : Figures) (salt custom rest s : List ℕ)
+    (whole : s ≡ headerBytes minor c seed nonce fig salt custom ++ rest) (seed-long : length seed ≡ 32)
+    (nonce-long : length nonce ≡ nonceLength c) where
+  -- how many bytes the KDF dictionary has
+  abbrev kl : ℕ
+  kl = kdfLength fig (length salt)
+
   -- what stands before a field
   abbrev to-3 : List ℕ
   to-3 = versionBytes minor ++ fieldBytes 2 (identifier c)
@@ -82,7 +87,7 @@ module _ (minor : ℕ) (c : Cipher) (seed nonce kdfSeed : List ℕ) (rounds : �
   to-11 = to-7 ++ fieldBytes 7 nonce
 
   abbrev to-12 : List ℕ
-  to-12 = to-11 ++ fieldBytes 11 (kdfBytes kdfSeed rounds)
+  to-12 = to-11 ++ fieldBytes 11 (kdfBytes fig salt)
 
   -- what stands behind a field
   abbrev from-0 : List ℕ
@@ -92,7 +97,7 @@ module _ (minor : ℕ) (c : Cipher) (seed nonce kdfSeed : List ℕ) (rounds : �
   from-12 = customField custom ++ from-0
 
   abbrev from-11 : List ℕ
-  from-11 = fieldBytes 11 (kdfBytes kdfSeed rounds) ++ from-12
+  from-11 = fieldBytes 11 (kdfBytes fig salt) ++ from-12
 
   abbrev from-7 : List ℕ
   from-7 = fieldBytes 7 nonce ++ from-11
@@ -115,10 +120,10 @@ module _ (minor : ℕ) (c : Cipher) (seed nonce kdfSeed : List ℕ) (rounds : �
       length-more to-7 7 nonce 79 (nonceLength c) (84 + nonceLength c) (length-frontOf minor c seed seed-long)
       nonce-long refl
 
-  length-12 : length to-12 ≡ 182 + nonceLength c
+  length-12 : length to-12 ≡ 89 + nonceLength c + kl
   length-12 =
-      length-more to-11 11 (kdfBytes kdfSeed rounds) (84 + nonceLength c) 93 (182 + nonceLength c) length-11
-      (length-kdfBytes kdfSeed rounds kdf-seed-long) (omega arith)
+      length-more to-11 11 (kdfBytes fig salt) (84 + nonceLength c) kl (89 + nonceLength c + kl) length-11
+      (length-kdfBytes fig salt) (omega arith)
 
   -- the whole, parted at a field
   whole-0 : s ≡ to-12 ++ customField custom ++ fieldBytes 0 endBytes ++ rest
@@ -132,7 +137,7 @@ module _ (minor : ℕ) (c : Cipher) (seed nonce kdfSeed : List ℕ) (rounds : �
   whole-11 = whole-12 ∙ append-assoc to-12 (customField custom) from-0
 
   whole-7 : s ≡ to-11 ++ from-11
-  whole-7 = whole-11 ∙ append-assoc to-11 (fieldBytes 11 (kdfBytes kdfSeed rounds)) from-12
+  whole-7 = whole-11 ∙ append-assoc to-11 (fieldBytes 11 (kdfBytes fig salt)) from-12
 
   whole-4 : s ≡ to-7 ++ from-7
   whole-4 = whole-7 ∙ append-assoc to-7 (fieldBytes 7 nonce) from-11
@@ -151,11 +156,11 @@ module _ (minor : ℕ) (c : Cipher) (seed nonce kdfSeed : List ℕ) (rounds : �
   unfolding customField
   custom-none t = rw t
 
-  length-file : length s ≡ headerLength c (length custom) + length rest
+  length-file : length s ≡ headerLength c fig (length salt) (length custom) + length rest
   length-file =
-      ap length whole ∙ length-append (headerBytes minor c seed nonce kdfSeed rounds custom) rest
+      ap length whole ∙ length-append (headerBytes minor c seed nonce fig salt custom) rest
       ∙ ap (λ (n : ℕ). n + length rest)
-      (length-headerBytes minor c seed nonce kdfSeed rounds custom seed-long kdf-seed-long nonce-long)
+      (length-headerBytes minor c seed nonce fig salt custom seed-long nonce-long)
 
   -- a number among the first twelve bytes
   le-front : (i : ℕ) → i + 4 ≤ 12 → le 4 s i ≡ le 4 (versionBytes minor) i
@@ -165,7 +170,11 @@ module _ (minor : ℕ) (c : Cipher) (seed nonce kdfSeed : List ℕ) (rounds : �
       ap (λ (x : List ℕ). le 4 x i) (whole-2 ∙ append-assoc (versionBytes minor) (fieldBytes 2 (identifier c)) from-3)
       ∙ le-append 4 (versionBytes minor) (fieldBytes 2 (identifier c) ++ from-3) i b
 
-  pub header-fields : minor ≤ 1 → HasFields minor c seed nonce (kdfBytes kdfSeed rounds) custom s
+  at-least : 98 + nonceLength c + kl + cond (eqb (length custom) 0) 0 (5 + length custom) ≤ length s
+  unfolding headerLength
+  at-least = let l = length-file in omega arith
+
+  pub header-fields : minor ≤ 1 → HasFields minor c seed nonce (kdfBytes fig salt) custom s kl
   header-fields h =
       let l = length-file in
       record {
@@ -210,7 +219,7 @@ module _ (minor : ℕ) (c : Cipher) (seed nonce kdfSeed : List ℕ) (rounds : �
           whole = whole-11;
           at-is = length-11;
           start-is = omega arith;
-          length-is = length-kdfBytes kdfSeed rounds kdf-seed-long;
+          length-is = length-kdfBytes fig salt;
         };
         end-lies = λ t. record {
           before = to-12;
@@ -236,10 +245,10 @@ module _ (minor : ℕ) (c : Cipher) (seed nonce kdfSeed : List ℕ) (rounds : �
           after = rest;
           whole = whole-0 ∙ ap (λ (x : List ℕ). to-12 ++ x ++ fieldBytes 0 endBytes ++ rest) (custom-field t);
           at-is =
-              length-more to-12 12 custom (182 + nonceLength c) (length custom) (187 + nonceLength c + length custom)
+              length-more to-12 12 custom (89 + nonceLength c + kl) (length custom) (94 + nonceLength c + kl + length custom)
               length-12 refl (omega arith);
           start-is = omega arith;
           length-is = refl;
         };
-        long = omega arith;
+        long = at-least;
       }

@@ -19,38 +19,25 @@ returns-2 c =
 returns-3 : tie.Need-returns-3
 unfolding checkedSizes
 returns-3 c =
-    let n = c .before .before in
+    let z = c .before .before in
+    let n = z .before .before in
     rw (
       eq-eqb _ 32 (n .before .if1 .left),
       ← n .nonce-len .ensures,
-      eq-eqb _ _ (c .before .if2 .left),
-      ne-eqb _ 32 (c .if3 .taken),
-    )
+      eq-eqb _ _ (z .before .if2 .left),
+      sym (z .is-sized .ensures) ∙ c .before .if3 .taken,
+    ) (c .check-figures .ensures)
 
 returns-4 : tie.Need-returns-4
 unfolding checkedSizes
 returns-4 c =
-    let r = c .before .before in
-    let n = r .before .before .before in
+    let z = c .before in
+    let n = z .before .before in
     rw (
       eq-eqb _ 32 (n .before .if1 .left),
       ← n .nonce-len .ensures,
-      eq-eqb _ _ (r .before .before .if2 .left),
-      eq-eqb _ 32 (r .before .if3 .left),
-      sym (r .rounds-fit .ensures) ∙ c .before .if4 .taken,
-    ) (c .check-custom .ensures)
-
-returns-5 : tie.Need-returns-5
-unfolding checkedSizes
-returns-5 c =
-    let r = c .before in
-    let n = r .before .before .before in
-    rw (
-      eq-eqb _ 32 (n .before .if1 .left),
-      ← n .nonce-len .ensures,
-      eq-eqb _ _ (r .before .before .if2 .left),
-      eq-eqb _ 32 (r .before .if3 .left),
-      sym (r .rounds-fit .ensures) ∙ c .if4 .left,
+      eq-eqb _ _ (z .before .if2 .left),
+      sym (z .is-sized .ensures) ∙ c .if3 .left,
     )
 
 pub check-sizes-spec : {M : Type 1} → statement M
@@ -60,8 +47,7 @@ check-sizes-spec =
     returns
     (λ c κs. search needs)
     returns-2
+    (λ c κs. search needs)
+    (λ c κs. search needs)
     returns-3
-    (λ c κs. search needs)
-    (λ c κs. search needs)
-    returns-4
-    returns-5)
+    returns-4)

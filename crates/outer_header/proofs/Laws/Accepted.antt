@@ -5,7 +5,7 @@
 --   accepts-judged              who passes them is accepted
 --   IsHeader, header-accepts    all checks in order
 --   accepts-header              who passes them all is accepted
---   HeaderStands, header-stands    limits, lengths, and places within the header
+--   HeaderStands, header-stands    limits, lengths, and places within the header; of the KDF's figures (Asks, IsAsked)
 -- Not here: the bytes behind the header (Behind).
 -- Assumes nothing.
 use mathlib.Core.Path.{_≡_, refl, sym, ap, ap₂, _∙_}
@@ -21,17 +21,17 @@ use Rattle.words.proofs.Laws.Cases.{by-bool}
 use Rattle.refusals.specs.declared.Refusal.{Refusal}
 use Rattle.refusals.specs.declared.Outcome.{Outcome}
 use Rattle.refusals.specs.declared.Outcome.the-variants as outcome
-use Rattle.refusals.specs.Limits.{fileLimit, roundsLimit}
+use Rattle.refusals.specs.Limits.{fileLimit}
 use Rattle.fields.specs.Fields.{bytesAt, endOf, given}
 use Rattle.ciphers.specs.Ciphers.{cipherOf, nonceLength}
 use Rattle.ciphers.specs.declared.Cipher.{Cipher}
 use Rattle.ciphers.specs.declared.Identified.{Identified}
 use Rattle.ciphers.specs.declared.Identified.the-variants.{As, Unlisted}
 use Rattle.kdf_dictionary.specs.KdfDictionary.{kdfOf}
-use Rattle.kdf_dictionary.specs.declared.AesKdf.{AesKdf}
+use Rattle.kdf_dictionary.specs.declared.Kdf.{Kdf}
 use Rattle.kdf_dictionary.specs.declared.Reading.{Reading as KdfReading}
 use Rattle.kdf_dictionary.specs.declared.Reading.the-variants as kdf
-use Rattle.kdf_dictionary.proofs.Laws.Asks.{kdfOf-asks}
+use Rattle.kdf_dictionary.proofs.Laws.Asks.{IsAsked, kdfOf-asks}
 use Rattle.outer_header.specs.declared.walk.Fields.{Fields}
 use Rattle.outer_header.specs.declared.walk.Walked.{Walked}
 use Rattle.outer_header.specs.declared.walk.Walked.the-variants as walked
@@ -56,7 +56,7 @@ refused-never : (r : Refusal) (h : Header) → read.Refused r ≡ read.Header h 
 refused-never r h e = let z : _≡_ {A = ℕ} 0 1 = cc in omega arith
 
 -- the header of these fields
-abbrev pub headerOf : Fields → ℕ → ℕ → Cipher → AesKdf → Header
+abbrev pub headerOf : Fields → ℕ → ℕ → Cipher → Kdf → Header
 headerOf f minor end c k =
     record {
       minor = minor;
@@ -123,7 +123,7 @@ module _ (s : List ℕ) (f : Fields) (minor end : ℕ) (h : Header) where
       (λ t. rw t (λ e. identified-accepts (cipherOf (bytesAt s (f .cipher))) t refl e))
       (λ t. rw t (λ e. absurd (refused-never _ h e)))
 
-pub accepts-judged : (s : List ℕ) (f : Fields) (minor end : ℕ) (c : Cipher) (k : AesKdf) → complete f ≡ true
+pub accepts-judged : (s : List ℕ) (f : Fields) (minor end : ℕ) (c : Cipher) (k : Kdf) → complete f ≡ true
     → cipherOf (bytesAt s (f .cipher)) ≡ As c
     → le 4 s (f .compression .start) ≡ 0
     → f .nonce .length ≡ nonceLength c
@@ -252,12 +252,10 @@ pub record HeaderStands (s : List ℕ) (h : Header) : Type 0 where
   pub seed-within : endOf (h .seed) ≤ h .length
   pub nonce-within : endOf (h .nonce) ≤ h .length
   pub dictionary-within : endOf (h .«kdf_dictionary») ≤ h .length
-  pub kdf-seed-within : endOf (h .kdf .seed) ≤ h .length
   pub custom-within : endOf (h .custom) ≤ h .length
   pub seed-length : h .seed .length ≡ 32
   pub nonce-length : h .nonce .length ≡ nonceLength (h .cipher)
-  pub kdf-seed-length : h .kdf .seed .length ≡ 32
-  pub rounds-le : h .kdf .rounds ≤ roundsLimit
+  pub kdf-stands : IsAsked (h .«kdf_dictionary») (h .kdf)
 
 -- a complete header has a seed
 complete-seed : (a b c d e : Bool) → (a && (b && (c && (d && e)))) ≡ true → c ≡ true
@@ -289,10 +287,8 @@ header-stands s h e =
       seed-within = rw a (w .placed .seed-le);
       nonce-within = rw b (w .placed .nonce-le);
       dictionary-within = rw c (w .placed .kdf-le);
-      kdf-seed-within = omega arith;
       custom-within = rw d (w .placed .custom-le);
       seed-length = rw a (w .placed .seed-size (complete-given f (j .complete-is)));
       nonce-length = rw b (j .nonce-is);
-      kdf-seed-length = k .seed-length;
-      rounds-le = k .rounds-le;
+      kdf-stands = rw c k;
     }

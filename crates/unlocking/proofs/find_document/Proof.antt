@@ -1,6 +1,6 @@
 -- `unlocking::find_document` meets its contract. Assumes nothing.
 use mathlib.Core.Path.{sym, _∙_}
-use Rattle.unlocking.proofs.Laws.{document-refused, document-found}
+use Rattle.unlocking.proofs.Laws.Opening.{document-refused, document-found}
 use borrow.Author.Needs.{needs}
 use Rattle.unlocking.proofs.find_document.Statement.{statement}
 use Rattle.unlocking.proofs.find_document.Tie as tie

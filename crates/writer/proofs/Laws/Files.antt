@@ -1,6 +1,7 @@
 -- The file as a whole: how long it is, and its parts as code lays them.
 --
 -- In order:
+--   headerLength-salt             a salt that a KDF takes is looked at whole
 --   length-summed                 a header, its hash and its tag
 --   length-written-blocks         the blocks of a payload
 --   header-summed                 a header laid at the front, then its hash and tag
@@ -18,6 +19,7 @@ use Rattle.slices.specs.Over.{over, laid}
 use Rattle.slices.proofs.Laws.Over.{length-over, take-over, over-fits, over-over, over-tail}
 use Rattle.ciphers.specs.declared.Cipher.{Cipher}
 use Rattle.ciphers.proofs.Laws.{nonceLength-le}
+use Rattle.kdf_dictionary.specs.declared.writer.Figures.{Figures as KdfFigures}
 use Rattle.header_writer.specs.Written.{headerBytes, headerLength}
 use Rattle.header_writer.proofs.Laws.Layout.{length-headerBytes}
 use Rattle.opening.specs.declared.Keys.{Keys}
@@ -29,6 +31,10 @@ use Rattle.writer.specs.Written.{encryptionBy, blocksOf, fileWith}
 use Rattle.writer.specs.Stretches.{textLength, blocksLength, fileLength, fileOf, summed, Sized}
 use Rattle.writer.proofs.Laws.Stretches.{encryption-text, length-stretch-text, length-textOf}
 use Rattle.writer.proofs.Laws.Blocks.{length-blocks}
+
+pub headerLength-salt : (c : Cipher) (fig : KdfFigures) (salt : List ℕ) (m : ℕ) → length salt ≤ 64
+    → headerLength c fig (length (take 64 salt)) m ≡ headerLength c fig (length salt) m
+headerLength-salt c fig salt m h = ap (λ (s : List ℕ). headerLength c fig (length s) m) (take-all 64 salt h)
 
 pub length-summed : (base h : List ℕ) → length (summed base h) ≡ length h + 64
 length-summed base h =
@@ -44,27 +50,29 @@ length-written-blocks c k b h =
     length-blocks (k .base) 0 (encryptionBy c k b)
     ∙ ap blocksLength (ap length (encryption-text c k b) ∙ length-stretch-text c k (k .nonce) 0 b h ∙ length-textOf c b)
 
-module _ (minor : ℕ) (c : Cipher) (seed nonce kdfSeed : List ℕ) (rounds : ℕ) (custom : List ℕ)
-    (z : Sized c seed nonce kdfSeed) where
+module _ (minor : ℕ) (c : Cipher) (seed nonce : List ℕ) (fig : KdfFigures) (salt custom : List ℕ)
+    (z : Sized c seed nonce salt) where
   abbrev header : List ℕ
-  header = headerBytes minor c seed nonce kdfSeed rounds custom
+  header = headerBytes minor c seed nonce fig salt custom
 
   pub short-nonce : length nonce ≤ 16
   short-nonce = omega (arith, z .nonce, nonceLength-le c)
 
-  pub length-header : length header ≡ headerLength c (length custom)
-  length-header = length-headerBytes minor c seed nonce kdfSeed rounds custom (z .seed) (z .kdfSeed) (z .nonce)
+  pub length-header : length header ≡ headerLength c fig (length salt) (length custom)
+  length-header = length-headerBytes minor c seed nonce fig salt custom (z .seed) (z .nonce)
 
   -- x has the header at its front, y its hash and tag behind it
-  pub header-summed : (base d x y s ks : List ℕ) (h : ℕ) → s ≡ seed → ks ≡ kdfSeed → h ≡ headerLength c (length custom)
-      → headerLength c (length custom) + 64 ≤ length d
-      → x ≡ laid (headerBytes minor c s (take 16 nonce) ks rounds custom) d → y ≡ over (summed base (take h x)) x
+  pub header-summed : (base d x y s : List ℕ) (h : ℕ) → s ≡ seed → h ≡ headerLength c fig (length salt) (length custom)
+      → headerLength c fig (length salt) (length custom) + 64 ≤ length d
+      → x ≡ laid (headerBytes minor c s (take 16 nonce) fig (take 64 salt) custom) d
+      → y ≡ over (summed base (take h x)) x
       → y ≡ over (summed base header) d
-  header-summed base d x y s ks h es ek eh l ex ey =
+  header-summed base d x y s h es eh l ex ey =
       let lh = length-header in
-      let e : headerBytes minor c s (take 16 nonce) ks rounds custom ≡ header =
-      ap₂ (λ (a b : List ℕ). headerBytes minor c a (take 16 nonce) b rounds custom) es ek
-      ∙ ap (λ (n : List ℕ). headerBytes minor c seed n kdfSeed rounds custom) (take-all 16 nonce short-nonce) in
+      let e : headerBytes minor c s (take 16 nonce) fig (take 64 salt) custom ≡ header =
+      ap (λ (a : List ℕ). headerBytes minor c a (take 16 nonce) fig (take 64 salt) custom) es
+      ∙ ap₂ (λ (n l : List ℕ). headerBytes minor c seed n fig l custom) (take-all 16 nonce short-nonce)
+      (take-all 64 salt (z .salt-le)) in
       let f : x ≡ over header d = ex ∙ ap (λ (w : List ℕ). laid w d) e ∙ over-fits header d (omega arith) in
       let m : take h x ≡ header = ap (take h) f ∙ take-over header d h (lh ∙ sym eh) in
       ey ∙ ap₂ (λ (u v : List ℕ). over (summed base u) v) m f
@@ -79,7 +87,8 @@ module _ (minor : ℕ) (c : Cipher) (seed nonce kdfSeed : List ℕ) (rounds : �
     pub keys-nonce : length (keys .nonce) ≡ 16
     keys-nonce = ap length (keysWith-nonce c seed (padded nonce) t) ∙ length-padded nonce short-nonce
 
-    pub length-file : length (fileOf minor c seed nonce kdfSeed rounds custom t b) ≡ fileLength c (length custom) (length b)
+    pub length-file : length (fileOf minor c seed nonce fig salt custom t b)
+        ≡ fileLength c fig (length salt) (length custom) (length b)
     unfolding fileWith fileLength
     length-file =
         length-append (summed (keys .base) header) (blocksOf (keys .base) (encryptionBy c keys b))
@@ -95,8 +104,10 @@ module _ (minor : ℕ) (c : Cipher) (seed nonce kdfSeed : List ℕ) (rounds : �
         ap (λ (j : Cipher). length (blocksOf (k .base) (encryptionBy j k b))) e ∙ length-written-blocks c k b h
 
     -- x has the header, its hash and its tag at its front; `at` is behind them
-    module _ (k : Keys) (d x : List ℕ) (at : ℕ) (ek : k ≡ keys) (ea : at ≡ headerLength c (length custom) + 64)
-        (l : fileLength c (length custom) (length b) ≤ length d) (ex : x ≡ over (summed (k .base) header) d) where
+    module _ (k : Keys) (d x : List ℕ) (at : ℕ) (ek : k ≡ keys)
+        (ea : at ≡ headerLength c fig (length salt) (length custom) + 64)
+        (l : fileLength c fig (length salt) (length custom) (length b) ≤ length d)
+        (ex : x ≡ over (summed (k .base) header) d) where
       abbrev front : List ℕ
       front = summed (k .base) header
 
@@ -125,7 +136,7 @@ module _ (minor : ℕ) (c : Cipher) (seed nonce kdfSeed : List ℕ) (rounds : �
       -- the blocks written over the rest of it
       pub file-laid : (ys : List ℕ) → ys ≡ over blocks (take (length x - at) (drop at x))
           → take at x ++ (ys ++ drop (length x - at) (drop at x))
-          ≡ over (fileOf minor c seed nonce kdfSeed rounds custom t b) d
+          ≡ over (fileOf minor c seed nonce fig salt custom t b) d
       unfolding fileWith
       file-laid ys ey =
           let m : length x - at ≡ length d - at = ap (λ (n : ℕ). n - at) same-long in

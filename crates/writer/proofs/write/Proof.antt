@@ -14,8 +14,8 @@ use Rattle.writer.proofs.write.Tie as tie
 
 abbrev given : (c : tie.Start) → Figures
 given c =
-    figures (c .args .minor) (now (c .args .cipher)) (now (c .args .seed)) (now (c .args .nonce)) (now (c .args .kdf-seed))
-    (c .args .rounds) (now (c .args .custom))
+    figures (c .args .minor) (now (c .args .cipher)) (now (c .args .seed)) (now (c .args .nonce)) (c .args .figures)
+    (now (c .args .salt)) (now (c .args .custom))
 
 returns : tie.Need-returns
 unfolding checkedOf
@@ -34,8 +34,8 @@ write-checked-requires c κs =
     let at-check = c .before .before .before .before in
     let st = at-check .before .before .before .before .before .before .before .before in
     let a = st .args in
-    checked-sized _ (now (a .seed)) (now (a .nonce)) (now (a .kdf-seed)) (a .rounds) (now (a .custom)) (a .minor) (now (a .cipher))
-    (sym (at-check .check .ensures) ∙ c .before .before .c .given .1)
+    checked-sized (a .minor) (now (a .cipher)) (now (a .seed)) (now (a .nonce)) (a .figures) (now (a .salt))
+    (now (a .custom)) _ (sym (at-check .check .ensures) ∙ c .before .before .c .given .1)
 
 returns-2 : tie.Need-returns-2
 unfolding checkedOf fileBytes headerOf

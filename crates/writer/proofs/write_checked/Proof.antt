@@ -18,16 +18,21 @@ use Rattle.writer.proofs.write_checked.Tie as tie
 -- the file, and its length
 abbrev file : (c : tie.Start) → List ℕ
 file c =
-    fileOf (c .args .minor) (c .args .c) (now (c .args .seed)) (now (c .args .nonce)) (now (c .args .kdf-seed)) (c .args .rounds)
-    (now (c .args .custom)) (c .args .t) (now (c .args .payload))
+    fileOf (c .args .minor) (c .args .c) (now (c .args .seed)) (now (c .args .nonce)) (c .args .figures)
+    (now (c .args .salt)) (now (c .args .custom)) (c .args .t) (now (c .args .payload))
 
-long : (c : tie.Start) → length (file c) ≡ fileLength (c .args .c) (length (now (c .args .custom))) (length (now (c .args .payload)))
+long : (c : tie.Start)
+    → length (file c)
+    ≡ fileLength (c .args .c) (c .args .figures) (length (now (c .args .salt))) (length (now (c .args .custom)))
+    (length (now (c .args .payload)))
 long c =
-    length-file (c .args .minor) (c .args .c) (now (c .args .seed)) (now (c .args .nonce)) (now (c .args .kdf-seed)) (c .args .rounds)
-    (now (c .args .custom)) (c .pre) (c .args .t) (now (c .args .payload))
+    length-file (c .args .minor) (c .args .c) (now (c .args .seed)) (now (c .args .nonce)) (c .args .figures)
+    (now (c .args .salt)) (now (c .args .custom)) (c .pre) (c .args .t) (now (c .args .payload))
 
 file-len-requires : tie.Need-file-len-requires
-file-len-requires c κs = leb-true _ _ (sym (c .before .payload-fits .ensures) ∙ c .if1 .taken)
+file-len-requires c κs =
+    let st = c .before .before .before .before .before .before .before .before in
+    (st .pre .salt-le, leb-true _ _ (sym (c .before .payload-fits .ensures) ∙ c .if1 .taken))
 
 returns : tie.Need-returns
 unfolding bytesOf over

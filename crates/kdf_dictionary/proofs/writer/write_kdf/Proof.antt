@@ -1,29 +1,58 @@
 -- `kdf_dictionary::writer::write_kdf` meets its contract. Assumes nothing.
-use mathlib.Core.Path.{_≡_, refl, ap, _∙_}
-use mathlib.Core.List.{List, _++_}
-use Prim.Native.Nat.{ℕ}
+use mathlib.Core.Path.{_≡_, sym, ap, ap₂, _∙_}
+use mathlib.Core.List.{List}
+use Prim.Native.Nat.{ℕ, _≤_}
 use native.Mathlib.Omega.{arith}
-use lib.ListN.{length, take, replicate}
-use Rattle.slices.specs.Over.{over}
-use Rattle.slices.proofs.Laws.Over.{over-behind-fits}
-use Rattle.kdf_dictionary.proofs.Laws.Kdf.{length-kdfBytes, kdfBytes-seed}
+use denote.Ref.{now}
+use lib.ListN.{length, take, length-take}
+use Rattle.slices.specs.Over.{laid}
+use Rattle.kdf_dictionary.specs.Kdf.{kdfBytes}
+use Rattle.kdf_dictionary.specs.declared.writer.Figures.{Figures}
 use borrow.Author.Needs.{needs}
 use Rattle.kdf_dictionary.proofs.writer.write_kdf.Statement.{statement}
 use Rattle.kdf_dictionary.proofs.writer.write_kdf.Tie as tie
 
-long-seed : (c : tie.Start) → length (c .args .t1) ≡ 32
-long-seed c = search needs
+write-aes-kdf-requires : tie.Need-write-aes-kdf-requires
+write-aes-kdf-requires c κs =
+    let p = c .before .before .before .before in
+    let h : length (now (p .part .result)) ≤ 64 = rw (p .part .ensures, length-take) (omega arith) in
+    h
+
+write-argon2-requires : tie.Need-write-argon2-requires
+write-argon2-requires c κs =
+    let p = c .before .before .before .before in
+    let h : length (now (p .part .result)) ≤ 64 = rw (p .part .ensures, length-take) (omega arith) in
+    h
+
+write-argon2-requires-2 : tie.Need-write-argon2-requires-2
+write-argon2-requires-2 c κs =
+    let p = c .before .before .before .before in
+    let h : length (now (p .part .result)) ≤ 64 = rw (p .part .ensures, length-take) (omega arith) in
+    h
 
 returns : tie.Need-returns
+unfolding kdfBytes
 returns c =
-    let st = c .before .before .before .before .before in
-    let x = c .before .before .before .before .with-rounds in
-    let seed = st .args .t1 in
-    let n : length seed ≡ 32 = long-seed st in
-    let m : length (x .result) ≡ 93 =
-    ap length (x .ensures) ∙ length-kdfBytes (replicate 32 0) (st .args .rounds) refl in
-    over-behind-fits seed (x .result) _ 60 33 (omega arith) (omega arith) (c .before .copy .ensures)
-    ∙ ap (λ (d : List ℕ). over (take 60 d ++ seed) d) (x .ensures) ∙ kdfBytes-seed seed (st .args .rounds) n
+    let w = c .before .before in
+    let f = w .before .before .before in
+    let p = f .before .before in
+    rw (← p .part .ensures, f .figures .given .1) (w .write-aes-kdf .ensures)
+
+returns-2 : tie.Need-returns-2
+unfolding kdfBytes
+returns-2 c =
+    let w = c .before .before in
+    let f = w .before .before .before in
+    let p = f .before .before in
+    rw (← p .part .ensures, f .figures2 .given .1) (w .write-argon2 .ensures)
+
+returns-3 : tie.Need-returns-3
+unfolding kdfBytes
+returns-3 c =
+    let w = c .before .before in
+    let f = w .before .before .before in
+    let p = f .before .before in
+    rw (← p .part .ensures, f .figures3 .given .1) (w .write-argon22 .ensures)
 
 pub write-kdf-spec : {M : Type 1} → statement M
 write-kdf-spec =
@@ -31,8 +60,14 @@ write-kdf-spec =
     (tie.spec
     (λ c κs. search needs)
     (λ c. search needs)
+    write-aes-kdf-requires
     (λ c. search needs)
+    write-argon2-requires
     (λ c. search needs)
+    write-argon2-requires-2
     (λ c. search needs)
-    (λ c κs. search needs)
-    returns)
+    returns
+    (λ c. search needs)
+    returns-2
+    (λ c. search needs)
+    returns-3)

@@ -6,7 +6,7 @@ use native.Mathlib.Omega.{arith}
 use lib.ListN.{replicate}
 use Rattle.aes_kdf.specs.State.{advances}
 use Rattle.aes_kdf.specs.declared.Transformation.{Transformation}
-use Rattle.unlocking.proofs.Laws.{advances-more, advances-end}
+use Rattle.unlocking.proofs.Laws.Key.{advances-more, advances-end}
 use borrow.Author.Needs.{needs}
 use Rattle.unlocking.proofs.rounds.advance.Statement.{statement}
 use Rattle.unlocking.proofs.rounds.advance.Tie as tie

@@ -6,7 +6,7 @@ use Rattle.aes_kdf.specs.State.{advances, finished}
 use Rattle.aes_kdf.specs.declared.Started.{Started}
 use Rattle.aes_kdf.specs.declared.Transformation.{Transformation}
 use Rattle.aes_kdf.specs.declared.Transformed.{Transformed}
-use Rattle.unlocking.proofs.Laws.{key-of-fifty}
+use Rattle.unlocking.proofs.Laws.Key.{key-of-fifty}
 use borrow.Author.Needs.{needs}
 use Rattle.unlocking.proofs.rounds.transform.Statement.{statement}
 use Rattle.unlocking.proofs.rounds.transform.Tie as tie

@@ -11,7 +11,7 @@ slice-aggregate-write : tie.Need-slice-aggregate-write
 slice-aggregate-write c =
     let r = c .before .room-of in
     let at-field = c .before .before .before .before .before .before .before .before .before in
-    let st = at-field .before .before .before .before .before .before .before .before .before in
+    let st = at-field .before .before .before .before .before .before .before .before in
     let h = r .ensures in
     sym (length-take-le (r .result) (now (st .args .out)) (omega arith))
 
@@ -22,7 +22,6 @@ write-to-spec =
     (λ c κs. search needs)
     (λ c κs. search needs)
     (λ c. search needs)
-    (λ c κs. search needs)
     (λ c κs. search needs)
     (λ c κs. search needs)
     (λ c κs. search needs)
