@@ -10,7 +10,7 @@ from random import Random
 from inputs.requests import some_vault
 from inputs.shapes import Block, sound_vault
 from model import header as outer, inner, keys, vault
-from model.dictionary import AES_KDF
+from model.dictionary import AES_KDF, ARGON2D, ARGON2ID, kdf_figures
 from model.limits import Refusal
 from model.primitives import sha256
 
@@ -86,16 +86,32 @@ def stepped(data, t):
     return made
 
 
+def transformed(composite, kdf):
+    """T by the KDF of a header."""
+    if kdf["kind"] == "aeskdf":
+        return keys.transformed(composite, kdf["S"], kdf["R"])
+    return keys.argon2(kdf["kind"], composite, kdf["S"], kdf["I"], kdf["M"], kdf["P"])
+
+
+def check_figures(tally, label, entry, kdf):
+    """The KDF's figures, as far as the manifest has them: those of AES-KDF, or all of Argon2's."""
+    tally.same(label + " KDF", kdf["kind"], entry.get("kdf", "aeskdf"))
+    if "R" in entry:
+        tally.same(label + " rounds", kdf["R"], entry["R"])
+    if "figures" in entry:
+        tally.same(label + " figures", dict(kdf, S=kdf["S"].hex()), entry["figures"])
+
+
 def check_opened(tally, folder, entry, data):
-    """A vault with AES-KDF: keys, payload, blocks, inner header."""
+    """A vault: keys, payload, blocks, inner header."""
     label = entry["file"]
     header = outer.read(data)
     tally.same(label + " cipher", header.cipher, entry["cipher"])
     tally.same(label + " version", "4.%d" % header.minor, entry["version"])
-    tally.same(label + " rounds", header.kdf["R"], entry.get("R", header.kdf["R"]))
+    check_figures(tally, label, entry, header.kdf)
     composite = keys.composite(*credentials(folder, entry), None)
     tally.same(label + " composite key", composite.hex(), entry["composite"])
-    t = keys.transformed(composite, header.kdf["S"], header.kdf["R"])
+    t = transformed(composite, header.kdf)
     tally.same(label + " T", t.hex(), entry["T"])
     tally.same(label + " blocks", block_sizes(data, header.length + 64), entry["blocks"])
     plain = vault.open_whole(data, t)
@@ -121,9 +137,7 @@ def check_fixtures(tally, folder):
     for entry in entries:
         with open(os.path.join(folder, entry["file"]), "rb") as file:
             data = file.read()
-        if "kdf" in entry:
-            tally.same(entry["file"], number_of(outer.read, data), 9)  # Argon2 is not listed yet
-        elif "expect" in entry:
+        if "expect" in entry:
             tally.same(entry["file"], number_of(outer.read, data), entry["expect"])
         else:
             check_opened(tally, folder, entry, data)
@@ -184,6 +198,19 @@ def check_refusals(tally):
     tally.same("eleven bytes", number_of(outer.read, front[:11]), 2)
 
 
+def check_argon2(tally):
+    """Item 6's readings in numbers: "M = 29,576 with P = 3 is 24 blocks, not 28", and what one word less gives."""
+    for memory, lanes, blocks in ((29_576, 3, 24), (8_192, 1, 8), (67_108_864, 16, 65_536), (131_072, 16, 128)):
+        tally.same("words of %d and %d" % (memory, lanes), keys.argon2_words(memory, lanes), 128 * blocks)
+    for lent, number in ((None, 0), (3072, 0), (3071, 17), (0, 17)):
+        given = number_of(keys.argon2, "argon2d", bytes(32), bytes(8), 1, 29_576, 3, lent)
+        tally.same("%s words lent" % lent, given, number)
+    for identifier, kind in ((ARGON2D, "argon2d"), (ARGON2ID, "argon2id")):
+        found = kdf_figures(vault.written_argon2(identifier, bytes(range(9)), 64, 67_108_864, 16))
+        right = {"kind": kind, "V": 0x13, "S": bytes(range(9)), "I": 64, "M": 67_108_864, "P": 16}
+        tally.same("%s as written" % kind, found, right)
+
+
 def check_listing(tally):
     """The worked listing, and the R lines."""
     data = written(outer.CHACHA20, 5)
@@ -208,6 +235,7 @@ def check_model(fixtures):
     check_lengths(tally)
     check_handed_over(tally)
     check_refusals(tally)
+    check_argon2(tally)
     check_listing(tally)
     check_agreement(tally)
     check_fixtures(tally, fixtures)

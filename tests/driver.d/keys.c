@@ -1,4 +1,5 @@
-/* From credentials to T in helpings, and from T to the keys of a file. */
+/* From credentials to T, by AES-KDF in helpings or by Argon2, and from T to the keys of a file. */
+#include "kdf.h"
 #include "operations.h"
 
 /* A credential, and whether it is given. */
@@ -64,6 +65,30 @@ void op_rounds(request *q) {
     if (!answer_no(q, kdbx4_aes_kdf_start(composite, seed, rounds, state))) return;
     answer_helpings(q, state);
     answer_t(q, state);
+}
+
+/* More words than a run uses: those of the memory asked for, of at most 64 MiB, and some behind them. */
+static size_t enough_words(uint64_t memory) { return (memory < 67108864 ? (size_t)memory : 67108864) / 8 + 16; }
+
+/* The words lent to a run: those used, none after a refusal, are to be zeros, and those behind them as they were. */
+static void see_words(request *q, uint8_t no, const uint64_t *words, size_t n, size_t used) {
+    see(q, no, words, n * sizeof *words, used * sizeof *words);
+    for (size_t i = 0; i < used; i++)
+        if (words[i] != 0) q->touched = true;
+}
+
+void op_argon2(request *q) {
+    uint32_t kind = field_kind(q, q->asked), lanes = (uint32_t)field_number(q, q->asked, "P", UINT32_MAX);
+    const uint8_t *composite = field_array_of(q, q->asked, "composite", 32);
+    slice salt = field_bytes(q, q->asked, "S");
+    uint64_t passes = field_number(q, q->asked, "I", UINT64_MAX), memory = field_number(q, q->asked, "M", UINT64_MAX);
+    size_t n = field_lent(q, enough_words(memory));
+    uint64_t *words = lend(q, n * sizeof *words);
+    uint8_t *t = lend(q, 32);
+    uint8_t no = kdbx4_argon2(kind, composite, salt.at, salt.length, passes, memory, lanes, words, n, t);
+    see(q, no, t, 32, 32);
+    see_words(q, no, words, n, no == 0 ? KDBX4_ARGON2_WORDS(memory, lanes) : 0);
+    if (answer_no(q, no)) answer_bytes(q, "T", (slice){t, 32});
 }
 
 void op_keys(request *q) {

@@ -7,25 +7,29 @@
  * "touched" says that bytes behind those due have changed. Outputs are filled with A5 before each call.
  *
  *   op           asks                                           answers on 0
- *   header       data                                           minor, cipher, length, seed, nonce, kdf {kind, S, R},
- *                                                               kdf_span, custom_span or null
+ *   header       data                                           minor, cipher, length, seed, nonce, kdf, kdf_span,
+ *                                                               custom_span or null
  *   list         data                                           text; an R line too
  *   dict         data
  *   lookup       data, name                                     found (true or false); where found: at, size, value
  *   composite    password, keyfile, prehash: each may be absent key
  *   rounds       composite, S, R, helpings [n, ..]              helpings [[done in all, halves], ..], T or null, T_no
+ *   argon2       kind, composite, S, I, M, P, lent              T
  *   keys         seed, T, i                                     cipher_key, tag_base, tag_key
  *   hash         alg, parts [bytes or {"zeros": n}, ..]         feeds [no, ..], digest
  *   tag          key, data                                      tag
  *   open         data, T, lent                                  length, payload
  *   steps        data, T, lents [n, ..], file_lengths {"k": n}  steps [{no, count, bytes}, ..]
- *   write        minor, cipher, seed, nonce, kdf {kind, S, R},  length, file
- *                custom, T, data, lent
+ *   write        minor, cipher, seed, nonce, kdf, custom, T,    length, file
+ *                data, lent
  *   inner        data                                           alg, key_span, doc_start,
  *                                                               attachments [[start, length, flags], ..]
  *   attachment   data, index                                    flags, at, length, content
  *   inner_write  alg, key, run, data, lent                      length, payload
  *
+ * - `kdf` is {kind: "aeskdf", S, R} or {kind: "argon2d" or "argon2id", S, I, M, P}; a header's has V too. A kind that
+ *   is asked for may also be a number, which is handed on as it stands.
+ * - `lent` of `argon2` counts words. After a success "touched" says too that a word that was used is not zero.
  * - The number of `hash` is 0, and those of its feeds stand in "feeds": the digest is that of the parts accepted. After
  *   a refused feed the state is to be as it was, else "touched".
  * - Each of the `steps` has all three: after a refusal a count of 0 and no bytes, which is document 01's "zero in every
@@ -54,6 +58,7 @@ static const struct {
     {"lookup", op_lookup},
     {"composite", op_composite},
     {"rounds", op_rounds},
+    {"argon2", op_argon2},
     {"keys", op_keys},
     {"hash", op_hash},
     {"tag", op_tag},

@@ -13,6 +13,7 @@ void op_lookup(request *q);
 /* keys.c */
 void op_composite(request *q);
 void op_rounds(request *q);
+void op_argon2(request *q);
 void op_keys(request *q);
 
 /* hashes.c */

@@ -1,4 +1,4 @@
-"""The few large requests: at each limit of document 01, and one past it."""
+"""The few large requests: at each limit of document 01 and of Item 6, and one past it."""
 
 from model import vault as opening
 from model.limits import FILE_LIMIT, MESSAGE_LIMIT, PROGRAM_LIMIT
@@ -126,6 +126,16 @@ def hash_of(alg, *parts):
     return lambda rng: {"op": "hash", "alg": alg, "parts": made}
 
 
+def argon2_of(kind, passes, memory, lanes, lent=None):
+    """A run with these figures; without `lent` the driver lends enough."""
+
+    def make(rng):
+        made = {"op": "argon2", "kind": kind, **seeds(rng), "I": passes, "M": memory, "P": lanes}
+        return made if lent is None else {**made, "lent": lent}
+
+    return make
+
+
 def seeds(rng):
     """A composite key and the KDF's seed."""
     return {"composite": rng.randbytes(32).hex(), "S": rng.randbytes(32).hex()}
@@ -208,6 +218,16 @@ BORDERS = (
     hash_of("sha256", b"abc", MESSAGE_LIMIT - 2, MESSAGE_LIMIT - 3, b"\x01", b""),
     hash_of("sha512", b"abc", MESSAGE_LIMIT - 2, MESSAGE_LIMIT - 3, b"\x01", b""),
     lambda rng: {"op": "rounds", **seeds(rng), "R": 30_000, "helpings": [9_999, 0, 20_000, 1, 1]},
+    argon2_of("argon2d", 1, 67_108_864, 1),
+    argon2_of("argon2id", 1, 67_108_864, 16),
+    argon2_of("argon2id", 1, 67_108_863, 13, 128 * 65_520),
+    argon2_of("argon2d", 1, 67_108_864, 13, 128 * 65_520 - 1),
+    argon2_of("argon2d", 1, 67_108_864, 16, 128 * 65_536 - 1),
+    argon2_of("argon2d", 1, 67_108_865, 1),
+    argon2_of("argon2id", 1, 2**64 - 1, 2**32 - 1),
+    argon2_of("argon2d", 2**64 - 1, 2**32 + 8_192, 1),
+    argon2_of("argon2id", 64, 2_000_000, 3),
+    argon2_of("argon2d", 64, 131_072, 16),
     tag_of(MESSAGE_LIMIT),
     tag_of(MESSAGE_LIMIT + 1),
     inner_of("inner", FILE_LIMIT),

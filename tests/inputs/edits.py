@@ -1,14 +1,13 @@
 """Edits: each makes one change to a shape, most of them a fault. Two at once test the order of the checks."""
 
 from model import header as outer
-from model.dictionary import AES_KDF, SIZE_OF_TYPE
+from model.dictionary import AES_KDF, ARGON2D, ARGON2ID, ARGON2_ITEMS, SIZE_OF_TYPE
 from model.keys import tag_key
 from model.primitives import cbc_encrypt, hmac_sha256
 
-from .shapes import Block, Field, Item, flipped, int32_octets, sound_dictionary, sound_item
-
-ARGON2D = bytes.fromhex("EF636DDF8C29444B91F7A9A403E30A0C")
-ARGON2ID = bytes.fromhex("9E298B1956DB4773B23DFC3EC6F0A1E6")
+from .shapes import (
+    Block, Field, Item, aes_kdf_items, argon2_items, flipped, int32_octets, sound_dictionary, sound_item,
+)
 
 
 def other_size(rng, right):
@@ -113,45 +112,106 @@ DICTIONARY = (
 )
 
 
+# ----- a KDF's figures
+
+# At the borders of documents 01 and 02 and past them, and where a part of the number is one that is allowed.
+FIGURES = {
+    "R": (4_000_000, 4_000_001, 2**32, 2**32 + 1, 2**63, 2**64 - 1, 0),
+    "V": (0x10, 0x12, 0x14, 0x113, 2**24 + 0x13),
+    "I": (0, 64, 65, 2**32 + 1, 2**64 - 1),
+    "M": (0, 8_191, 67_108_864, 67_108_865, 2**32 + 2**20, 2**64 - 1),
+    "P": (0, 16, 17, 2**8 + 1, 2**16 + 1, 2**32 - 1),
+}
+
+
+def other_figure(rng, name):
+    """A figure at a border or past one; few are any."""
+    return rng.choice(FIGURES[name]) if rng.random() < 0.9 else rng.randrange(2 ** (32 if name in "VP" else 64))
+
+
+def other_salt(rng):
+    """A salt of a length around those that matter to either KDF."""
+    return rng.randbytes(rng.choice((0, 7, 8, 16, 31, 32, 33, 64, 65, 65, 264)))
+
+
+def scarce_memory(rng):
+    """Lanes, and just the memory that they need, or a little less or more."""
+    lanes = rng.choice((2, 16, rng.randrange(1, 17)))
+    return lanes, 8_192 * lanes + rng.choice((-1024, -1, -1, 0, 1))
+
+
 # ----- what a KDF dictionary asks for
+
+KDF_NAMES = (b"$UUID", b"R", *ARGON2_ITEMS)
 
 
 def kdf_identifier(rng, made):
     item = made.item(b"$UUID")
     if item:
-        near = (flipped(AES_KDF, rng.randrange(128)), AES_KDF[:15], AES_KDF + b"\x00")
-        item.value = rng.choice((ARGON2D, ARGON2ID, rng.randbytes(16)) + near)
+        near = (flipped(item.value, rng.randrange(128)), item.value[:15], item.value + b"\x00")
+        item.value = rng.choice((AES_KDF, ARGON2D, ARGON2ID, rng.randbytes(16)) + near)
 
 
-def kdf_rounds(rng, made):
-    item = made.item(b"R")
-    if item:
-        rounds = rng.choice((4_000_000, 4_000_001, 2**32, 2**32 + 1, 2**63, 2**64 - 1, 0, rng.randrange(2**64)))
-        item.value = rounds.to_bytes(8, "little")
+def kdf_figure(rng, made):
+    """Another number in an item that has one."""
+    items = [item for item in made.items if item.name.decode("latin-1") in FIGURES]
+    if items:
+        item = rng.choice(items)
+        item.value = other_figure(rng, item.name.decode()).to_bytes(8, "little")[: len(item.value)]
 
 
-def kdf_seed(rng, made):
+def kdf_salt(rng, made):
     item = made.item(b"S")
     if item:
-        item.value = rng.randbytes(rng.choice((0, 31, 33, 16, 64)))
+        item.value = other_salt(rng)
+
+
+def kdf_scarce_memory(rng, made):
+    memory, lanes = made.item(b"M"), made.item(b"P")
+    if memory and lanes:
+        number, octets_asked = scarce_memory(rng)
+        lanes.value, memory.value = number.to_bytes(4, "little"), octets_asked.to_bytes(8, "little")
+
+
+def kdf_item_of_kdf(rng, made):
+    """An item that a KDF asks for, or None where there is none."""
+    items = [item for item in made.items if item.name in KDF_NAMES]
+    return rng.choice(items) if items else None
 
 
 def kdf_item_type(rng, made):
     """Another type that takes the value, or a sound value of another type."""
-    item = made.item(rng.choice((b"$UUID", b"R", b"S")))
+    item = kdf_item_of_kdf(rng, made)
     if item:
-        item.kind = rng.choice((0x18, 0x42, 0x0D, 0x05, 0x04))
+        item.kind = rng.choice((0x18, 0x42, 0x0D, 0x0C, 0x05, 0x04))
         size = SIZE_OF_TYPE[item.kind]
         if size is not None:
             item.value = (item.value + bytes(8))[:size]
 
 
 def kdf_item_removed(rng, made):
-    name = rng.choice((b"$UUID", b"R", b"S"))
-    made.items = [item for item in made.items if item.name != name]
+    removed = kdf_item_of_kdf(rng, made)
+    made.items = [item for item in made.items if item is not removed]
 
 
-KDF = DICTIONARY + 3 * (kdf_identifier, kdf_rounds, kdf_seed, kdf_item_type, kdf_item_removed)
+def kdf_item_forbidden(rng, made):
+    """An item K or A of any type, which AES-KDF alone may have; sometimes one of a name near these."""
+    item = sound_item(rng)
+    item.name = rng.choice((b"K", b"A", b"K", b"A", b"k", b"KA"))
+    made.items.insert(rng.randrange(len(made.items) + 1), item)
+
+
+def kdf_items_of_both(rng, made):
+    """The items of both KDFs, under the identifier of one."""
+    names = [item.name for item in made.items]
+    made.items += [item for item in aes_kdf_items(rng) + argon2_items(rng)[1:] if item.name not in names]
+    if rng.random() < 0.5:
+        kdf_identifier(rng, made)
+
+
+KDF = DICTIONARY + 12 * (kdf_figure,)
+KDF += 4 * (kdf_identifier, kdf_salt, kdf_scarce_memory, kdf_item_type, kdf_item_removed, kdf_item_forbidden)
+KDF += (kdf_items_of_both,)
 
 
 # ----- fields of either header
@@ -276,7 +336,7 @@ def custom_field(rng, header):
 
 
 HEADER = FIELDS + (front, front, end_field, cipher_field, compression_field, nonce_field)
-HEADER += 4 * (kdf_field,) + 3 * (custom_field,)
+HEADER += 5 * (kdf_field,) + 3 * (custom_field,)
 
 
 # ----- the inner header

@@ -8,11 +8,14 @@ from random import Random
 from model import vault as opening
 from model.answers import file_of_step
 from model.header import AES, CHACHA20, NONCE_LENGTH
+from model.keys import argon2_words
 from model.limits import FILE_LIMIT, Refusal
 
 from . import edits
 from .borders import BORDERS, border, seeds
-from .shapes import Block, attachment_run, kdf_dictionary, sound_dictionary, sound_inner, sound_vault
+from .shapes import (
+    Block, argon2_figures, attachment_run, kdf_dictionary, sound_dictionary, sound_inner, sound_vault,
+)
 
 LARGE = 2**40  # a lent length past memory: large enough
 LARGEST = 2**64 - 1
@@ -22,8 +25,12 @@ LARGEST = 2**64 - 1
 
 
 def header_octets(rng):
-    """A header with none to three edits, sometimes with bytes behind it, sometimes edited as bytes."""
+    """A header with none to three edits, sometimes with bytes behind it, sometimes edited as bytes. Of some the KDF
+    dictionary alone is edited, because it has the most rules."""
     made = sound_vault(rng).header
+    if rng.random() < 0.3:
+        edits.kdf_field(rng, made)
+        return made.octets()
     edits.apply(rng, edits.HEADER, made)
     if rng.random() < 0.3:
         made.after = rng.randbytes(rng.randrange(20))
@@ -56,7 +63,7 @@ def looked_up_name(rng, made):
         return name
     if roll < 0.8:
         return edits.other_octets(rng, name)
-    return rng.choice((b"", b"R", b"S", b"$UUID", name + name, rng.randbytes(2)))
+    return rng.choice((b"", b"R", b"S", b"M", b"$UUID", name + name, rng.randbytes(2)))
 
 
 def request_lookup(rng):
@@ -121,6 +128,72 @@ def request_hash(rng):
 def request_tag(rng):
     key_length = rng.choice((0, 1, 31, 32, 33, 63, 64, 65, 127, 128, 129, 200, rng.randrange(150)))
     return {"key": rng.randbytes(key_length).hex(), "data": rng.randbytes(hash_length(rng)).hex()}
+
+
+# ----- Argon2
+
+
+def small_run(rng):
+    """Figures of a run that takes little time: salt, passes, memory, lanes. A few have more than 128 blocks in a
+    segment, or the most passes."""
+    salt = argon2_figures(rng)[0]
+    lanes = rng.choice((1, 1, 2, 3, 4, rng.randrange(1, 17)))
+    least = 8_192 * lanes
+    memory = least + rng.choice((0, 1, 1023, 1024, 4096 * lanes - 1, 4096 * lanes, rng.randrange(2 * least)))
+    passes = rng.choice((1, 1, 2, 3))
+    if rng.random() < 0.03:
+        passes, lanes, memory = 64, 1, rng.randrange(8_192, 16_384)
+    if rng.random() < 0.03:
+        lanes, memory = rng.choice(((1, rng.randrange(520_000, 800_000)), (2, rng.randrange(1_040_000, 1_300_000))))
+    return salt, passes, memory, lanes
+
+
+def asked_argon2(kind, salt, passes, memory, lanes):
+    """Argon2 as a request has it."""
+    return {"kind": kind, "S": salt.hex(), "I": passes, "M": memory, "P": lanes}
+
+
+def asked_figure(rng, kdf):
+    """Another figure of a KDF as a request has it."""
+    name = rng.choice([name for name in kdf if name in edits.FIGURES])
+    kdf[name] = edits.other_figure(rng, name)
+
+
+def asked_salt(rng, kdf):
+    kdf["S"] = edits.other_salt(rng).hex()
+
+
+def asked_scarce_memory(rng, kdf):
+    if kdf["kind"] != "aeskdf":
+        kdf["P"], kdf["M"] = edits.scarce_memory(rng)
+
+
+def asked_unlisted(rng, kdf):
+    """The number of no KDF; its figures are Argon2's."""
+    kdf.update(asked_argon2(rng.choice((3, 19, 255, 256, 2**16 + 1, 2**31, 2**32 - 1)), *argon2_figures(rng)))
+
+
+ASKED_KDF = 4 * (asked_figure,) + 2 * (asked_salt, asked_scarce_memory, asked_unlisted)
+
+
+def lent_words(rng, made):
+    """So many words as a run uses, one more or less, none or many more. A run of much memory is lent too few."""
+    if made["M"] > 2**21 or not 1 <= made["P"] <= 16:
+        return rng.choice((0, 127, 1024))
+    need = argon2_words(made["M"], made["P"])
+    unrounded = 128 * (made["M"] // 1024)
+    return rng.choice((need, need, need, max(0, need - 1), need + 1, need + 128, unrounded, need // 2, 0, LARGEST))
+
+
+def request_argon2(rng):
+    made = {"composite": rng.randbytes(32).hex()}
+    made.update(asked_argon2(rng.choice(("argon2d", "argon2id")), *small_run(rng)))
+    edits.apply(rng, ASKED_KDF, made, (0.55, 0.9, 0.97))
+    if rng.random() < 0.01:
+        made["kind"] = "aeskdf"
+    if rng.random() < 0.75 or made["M"] > 2**21:
+        made["lent"] = lent_words(rng, made)
+    return made
 
 
 # ----- files
@@ -225,6 +298,13 @@ def request_steps(rng):
     return made
 
 
+def sound_kdf(rng):
+    """A KDF that the writer takes."""
+    if rng.random() < 0.4:
+        return {"kind": "aeskdf", "S": rng.randbytes(32).hex(), "R": rng.choice((0, 1, 6000, 4_000_000))}
+    return asked_argon2(rng.choice(("argon2d", "argon2id")), *argon2_figures(rng))
+
+
 def sound_write(rng):
     """What the writer takes."""
     cipher = rng.choice(("aes", "chacha"))
@@ -233,7 +313,7 @@ def sound_write(rng):
         "cipher": cipher,
         "seed": rng.randbytes(32).hex(),
         "nonce": rng.randbytes(NONCE_LENGTH[cipher]).hex(),
-        "kdf": {"kind": "aeskdf", "S": rng.randbytes(32).hex(), "R": rng.choice((0, 1, 6000, 4_000_000))},
+        "kdf": sound_kdf(rng),
         "T": rng.randbytes(32).hex(),
         "data": rng.randbytes(payload_length(rng)).hex(),
     }
@@ -261,15 +341,11 @@ def write_cipher(rng, made):
 def write_lengths(rng, made):
     length = rng.choice((0, 11, 12, 13, 15, 16, 17, 31, 32, 33, 64))
     octets = rng.randbytes(length).hex()
-    part = rng.randrange(3)
-    if part == 0:
-        made["kdf"]["S"] = octets
-    else:
-        made[("seed", "nonce")[part - 1]] = octets
+    made[rng.choice(("seed", "nonce"))] = octets
 
 
-def write_rounds(rng, made):
-    made["kdf"]["R"] = rng.choice((4_000_000, 4_000_001, 2**32, 2**63, 2**64 - 1))
+def write_kdf(rng, made):
+    rng.choice(ASKED_KDF)(rng, made["kdf"])
 
 
 def write_custom(rng, made):
@@ -278,7 +354,7 @@ def write_custom(rng, made):
     made["custom"] = custom.octets().hex()
 
 
-WRITE = (write_minor, write_cipher, write_lengths, write_lengths, write_rounds, write_custom, write_custom)
+WRITE = (write_minor, write_cipher, write_lengths, write_lengths) + 4 * (write_kdf,) + 2 * (write_custom,)
 
 
 def request_write(rng):
@@ -295,6 +371,8 @@ def written_length(made):
     text = payload // 16 * 16 + 16 if made["cipher"] == "aes" else payload
     custom = len(made.get("custom", "")) // 2
     header = (207 if made["cipher"] == "aes" else 203) + (5 + custom if custom else 0)
+    if made["kdf"]["kind"] != "aeskdf":
+        header += 107 - 93 + len(made["kdf"]["S"]) // 2  # the dictionary of Argon2, in place of AES-KDF's
     return header + 64 + text + 36 * (-(-text // 16_384) + 1)
 
 
@@ -348,10 +426,11 @@ def request_inner_write(rng):
 SHARES = {
     "header": (190, request_header),
     "list": (60, request_header),
-    "dict": (110, request_dict),
-    "lookup": (80, request_lookup),
-    "composite": (40, request_composite),
+    "dict": (90, request_dict),
+    "lookup": (70, request_lookup),
+    "composite": (30, request_composite),
     "rounds": (40, request_rounds),
+    "argon2": (40, request_argon2),
     "keys": (20, request_keys),
     "hash": (50, request_hash),
     "tag": (40, request_tag),

@@ -1,7 +1,7 @@
 """The parts of a file before they become bytes. A size, number or tag that is left None is the right one."""
 
 from model import header as outer, keys
-from model.dictionary import AES_KDF, BYTES, SIZE_OF_TYPE, UINT64
+from model.dictionary import AES_KDF, ARGON2_ITEMS, ARGON2D, ARGON2ID, BYTES, SIZE_OF_TYPE, UINT32, UINT64
 from model.primitives import sha256
 
 
@@ -143,7 +143,8 @@ def flipped(data, bit):
     return bytes(made)
 
 
-NAMES = (b"", b"a", b"b", b"ab", b"ba", b"R", b"S", b"K", b"A", b"$UUID", b"\xff", b"a\x00", b"name of an item")
+NAMES = (b"", b"a", b"b", b"ab", b"ba", b"$UUID", b"\xff", b"a\x00", b"name of an item")
+NAMES += (b"R", b"S", b"V", b"I", b"M", b"P", b"K", b"A")
 
 
 def sound_item(rng, taken=()):
@@ -177,16 +178,47 @@ def sound_dictionary(rng, most=5):
     return made
 
 
-def kdf_dictionary(rng):
-    """A sound KDF dictionary with few rounds, sometimes with other items, in any order."""
+def aes_kdf_items(rng):
+    """The items of AES-KDF with few rounds."""
     rounds = rng.choice((0, 1, 2, rng.randrange(50), 4_000_000, 65_536))
-    made = [
+    return [
         Item(BYTES, b"$UUID", AES_KDF),
         Item(UINT64, b"R", rounds.to_bytes(8, "little")),
         Item(BYTES, b"S", rng.randbytes(32)),
     ]
+
+
+def argon2_figures(rng):
+    """Sound figures of Argon2, many of them at a border: salt, passes, memory, lanes."""
+    salt = rng.randbytes(rng.choice((8, 16, 32, 64, rng.randrange(8, 65))))
+    passes = rng.choice((1, 2, 64, rng.randrange(1, 65)))
+    lanes = rng.choice((1, 2, 16, rng.randrange(1, 17)))
+    least, most = 8_192 * lanes, 67_108_864
+    memory = rng.choice((least, least + 1, 2**20, most, rng.randrange(least, most + 1)))
+    return salt, passes, memory, lanes
+
+
+def argon2_items(rng):
+    """The items of Argon2d or Argon2id."""
+    salt, passes, memory, lanes = argon2_figures(rng)
+    return [
+        Item(BYTES, b"$UUID", rng.choice((ARGON2D, ARGON2ID))),
+        Item(UINT32, b"V", b"\x13\x00\x00\x00"),
+        Item(BYTES, b"S", salt),
+        Item(UINT64, b"I", passes.to_bytes(8, "little")),
+        Item(UINT64, b"M", memory.to_bytes(8, "little")),
+        Item(UINT32, b"P", lanes.to_bytes(4, "little")),
+    ]
+
+
+def kdf_dictionary(rng):
+    """A sound KDF dictionary, sometimes with other items, in any order. Those of AES-KDF may have any other name."""
+    if rng.random() < 0.45:
+        made, taken = aes_kdf_items(rng), (b"$UUID", b"R", b"S")
+    else:
+        made, taken = argon2_items(rng), (b"$UUID", *ARGON2_ITEMS, b"K", b"A")
     if rng.random() < 0.3:
-        made += sound_items(rng, 3, (b"$UUID", b"R", b"S"))
+        made += sound_items(rng, 3, taken)
     if rng.random() < 0.5:
         rng.shuffle(made)
     return Dictionary(made)

@@ -107,10 +107,24 @@ def read_refused(driver, path, credentials, number):
     raise Failed("opens")
 
 
+def for_file_kdbx(form):
+    """A form that File::KDBX reads (peers.py): without empty values, and Argon2 with a salt of 32 bytes."""
+    kdf = form["kdf"]
+    salt = bytes.fromhex(kdf["S"])
+    if kdf["kind"] != "aeskdf" and len(salt) != 32:
+        kdf = kdf | {"S": (salt * 4)[:32].hex()}
+    return form | {"custom": dictionaries.without_empty(form["custom"]), "kdf": kdf}
+
+
+def written(driver, credentials, form, payload):
+    """The file of a payload, under the key of credentials."""
+    _, t = library.transformed(driver, credentials, form["kdf"])
+    return library.written(driver, form, t, payload.whole)
+
+
 def write(driver, path, credentials, form, payload, original=None):
     """A payload written here; KeePassXC's export has to be `original`, where that is given."""
-    _, t = library.transformed(driver, credentials, form["kdf"])
-    file = library.written(driver, form, t, payload.whole)
+    file = written(driver, credentials, form, payload)
     path.write_bytes(file)
     tree = documents.uncovered(payload)
     found = documents.entries(tree, payload.attachments)
@@ -119,12 +133,12 @@ def write(driver, path, credentials, form, payload, original=None):
         same("KeePassXC: the export", original, peers.exported(path, credentials))
     path.write_bytes(library.changed(file))
     refuses("KeePassXC", peers.exported, path, credentials)
-    shortened = dictionaries.without_empty(form["custom"])
-    other = library.written(driver, form | {"custom": shortened}, t, payload.whole)
+    other_form = for_file_kdbx(form)
+    other = file if other_form == form else written(driver, credentials, other_form, payload)
     path.write_bytes(other)
-    agree_file_kdbx(path, credentials, payload, shortened, found)
+    agree_file_kdbx(path, credentials, payload, other_form["custom"], found)
     path.write_bytes(library.changed(other))
     refuses("File::KDBX", peers.perl, "try", path, credentials)
     blocks = library.block_sizes(file, driver.ask("header", data=file)["length"])
-    note = "" if other == file else "(File::KDBX: shortened)"
+    note = "" if other == file else "(File::KDBX: another)"
     return figures_of(form["minor"], form["cipher"], blocks, file, found, note)

@@ -2,6 +2,7 @@
 them.
 """
 import dataclasses
+import itertools
 import random
 
 import dictionaries
@@ -13,7 +14,16 @@ from peers import Credentials
 
 NONCE_SIZE = {"aes": 16, "chacha": 12}
 MINORS = (0, 1)
-KDF = {"kind": "aeskdf", "R": 6000}  # but for the seed
+AES_KDF = {"kind": "aeskdf", "R": 6000}  # but for the seed, and so below
+# Of Argon2: KeePass's own figures but for the memory; the least; blocks that RFC 9106 leaves out; many lanes; the most
+# passes. The length of the salt is that of a vault written here; KeePassXC takes 8 to 32 bytes.
+ARGON2 = (
+    {"I": 2, "M": 1_048_576, "P": 2, "salt": 32},
+    {"I": 1, "M": 8_192, "P": 1, "salt": 8},
+    {"I": 3, "M": 100_000, "P": 3, "salt": 32},
+    {"I": 2, "M": 200_000, "P": 16, "salt": 16},
+    {"I": 64, "M": 70_000, "P": 4, "salt": 31},
+)
 PASSWORD = "pässword € 1"
 BASE = Credentials("base", "base", None)
 DATA = {"terminal": "bench ä", "revision": "7"}
@@ -38,7 +48,8 @@ class Form:
 
     @property
     def name(self):
-        return f"{self.cipher}-4.{self.minor}-{self.credentials.name}"
+        kind = self.kdf["kind"]
+        return f"{self.cipher}-4.{self.minor}-{self.credentials.name}{'' if kind == 'aeskdf' else f'-{kind}'}"
 
     @property
     def algorithm(self):
@@ -60,18 +71,23 @@ class Form:
 
 
 def all_in(folder):
-    """All of them, with their key files in a folder."""
+    """All of them, with their key files in a folder: with AES-KDF all credentials, with either Argon2 some."""
     kf32, kfother = folder / "kf32.key", folder / "kfother.key"
     kf32.write_bytes(random.Random("kf32").randbytes(32))
     kfother.write_bytes(random.Random("kfother").randbytes(43))
     credentials = [("pw", PASSWORD, None), ("kf32", None, kf32), ("kfother", None, kfother)]
     credentials += [("both", PASSWORD, kf32), ("empty", "", None)]
-    return [
-        Form(cipher, minor, Credentials(*credential), KDF, k + 2 * minor + c)
+    made = [
+        Form(cipher, minor, Credentials(*credential), AES_KDF, k + 2 * minor + c)
         for c, cipher in enumerate(NONCE_SIZE)
         for minor in MINORS
         for k, credential in enumerate(credentials)
     ]
+    for kind, cipher, minor, _ in itertools.product(("argon2d", "argon2id"), NONCE_SIZE, MINORS, range(2)):
+        turn = len(made)
+        credential = Credentials(*credentials[(turn + turn // 5) % 5])
+        made.append(Form(cipher, minor, credential, {"kind": kind} | ARGON2[turn % 5], turn))
+    return made
 
 
 def make_file_kdbx(path, form, credentials, end=True):
@@ -158,7 +174,7 @@ def write_made(driver, path, form):
     if due is not None:
         payload = payload_of(driver, form, due - len(payload_of(driver, form, 0).whole))
         exchange.same("the payload's length", len(payload.whole), due)
-    kdf = form.kdf | {"S": form.bytes_of("kdf seed", 32).hex()}
+    kdf = form.kdf | {"S": form.bytes_of("kdf seed", form.kdf.get("salt", 32)).hex()}
     seed, nonce = form.bytes_of("seed", 32), form.bytes_of("nonce", NONCE_SIZE[form.cipher])
     asked = {"minor": form.minor, "cipher": form.cipher, "seed": seed, "nonce": nonce, "kdf": kdf}
     return exchange.write(driver, path, form.credentials, asked | {"custom": custom_of(form)}, payload)

@@ -46,8 +46,15 @@ def by_aes_kdf(driver, composite, kdf):
     return bytes.fromhex(answer["T"])
 
 
-# The KDFs that the library has. A vault with another one is skipped.
-TRANSFORMS = {"aeskdf": by_aes_kdf}
+def by_argon2(driver, composite, kdf):
+    """With just the words that the run uses: 128 for each of 4 P ⌊m / 4 P⌋ blocks, m being the memory in KiB."""
+    columns = 4 * kdf["P"]
+    figures = {name: kdf[name] for name in ("kind", "S", "I", "M", "P")}
+    lent = 128 * columns * (kdf["M"] // 1024 // columns)
+    return bytes.fromhex(driver.ask("argon2", composite=composite, **figures, lent=lent)["T"])
+
+
+TRANSFORMS = {"aeskdf": by_aes_kdf, "argon2d": by_argon2, "argon2id": by_argon2}
 
 
 def transformed(driver, credentials, kdf):

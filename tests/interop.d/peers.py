@@ -1,8 +1,10 @@
 """The other programs of tests/interop: KeePassXC by keepassxc-cli, and File::KDBX by file_kdbx.pl.
 
-KeePassXC 2.7.4's command line makes new vaults of KDBX 3.1 alone, but it keeps a vault's cipher, KDF, rounds, custom
-dictionary and lack of compression when it saves it: what it changes is written by it. It writes 4.1 where the document
-needs that, as an entry that was moved does, and else 4.0. File::KDBX 0.906 refuses any dictionary with an empty value.
+KeePassXC 2.7.4's command line makes new vaults of KDBX 3.1 alone, but it keeps a vault's cipher, KDF with its figures
+(Argon2's memory in whole KiB), custom dictionary and lack of compression when it saves it: what it changes is written
+by it. It writes 4.1 where the document needs that, as an entry that was moved does, and else 4.0. It takes a salt of
+Argon2 of 8 to 32 bytes. File::KDBX 0.906 refuses any dictionary with an empty value, and asks Argon2 for as many bytes
+as the salt has: of vaults with Argon2 it opens those with a salt of 32 bytes alone.
 """
 import dataclasses
 import json

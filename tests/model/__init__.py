@@ -1,8 +1,8 @@
-"""A second implementation of document 01, to compare the library with.
+"""A second implementation of document 01 and of document 02's Item 6, to compare the library with.
 
-Language: Python. Primitives: SHA-2 and HMAC from hashlib and hmac, AES-256 and ChaCha20 from the `cryptography`
-package, all of them OpenSSL's. It is written from document 01, the settled readings and the KDBX page alone, without
-a look at the library, so that a misreading on either side shows as a difference.
+Language: Python. Primitives: SHA-2 and HMAC from hashlib and hmac, AES-256, ChaCha20 and Argon2 from the `cryptography`
+package, all of them OpenSSL's. It is written from the two documents, the settled readings and the KDBX page alone,
+without a look at the library, so that a misreading on either side shows as a difference.
 
 In order: limits (numbers), primitives, dictionary, header, keys, vault (openers and writer), inner, answers (the
 driver's operations). Each rule stands under the sentence that it follows; "R:" marks a settled reading.

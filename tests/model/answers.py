@@ -67,6 +67,13 @@ def answer_rounds(request):
         return {"helpings": helpings, "T": None, "T_no": refusal.number}
 
 
+def answer_argon2(request):
+    """An absent `lent` is enough."""
+    figures = (request[name] for name in ("I", "M", "P"))
+    composite, salt = octets(request, "composite"), octets(request, "S")
+    return {"T": keys.argon2(request["kind"], composite, salt, *figures, request.get("lent")).hex()}
+
+
 def answer_keys(request):
     seed, t = octets(request, "seed"), octets(request, "T")
     base = keys.tag_base(seed, t)
@@ -176,6 +183,7 @@ OPERATIONS = {
     "lookup": answer_lookup,
     "composite": answer_composite,
     "rounds": answer_rounds,
+    "argon2": answer_argon2,
     "keys": answer_keys,
     "hash": answer_hash,
     "tag": answer_tag,

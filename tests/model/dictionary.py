@@ -1,16 +1,22 @@
-"""Variant dictionaries (document 01, "Header", its last paragraph)."""
+"""Variant dictionaries (document 01, "Header", its last paragraph; document 02, Item 6)."""
 
 from .limits import (
-    DICTIONARY, REPEATED, ROUNDS, ROUNDS_LIMIT, UNLISTED_ALGORITHM, int32, require, uint,
+    ARGON2_VERSION, DICTIONARY, KDF_FIGURE, LANES, MEMORY, MEMORY_OF_LANE, PASSES, REPEATED, ROUNDS, ROUNDS_LIMIT,
+    SALT_LENGTHS, UNLISTED_ALGORITHM, int32, require, uint,
 )
 
 # "Types, in hexadecimal: 04 UInt32, 05 UInt64, 08 Bool (one byte), 0C Int32, 0D Int64, 18 string, 42 bytes. Sizes
 # must fit the type; strings and bytes may be empty." None is any size.
+UINT32 = 0x04
 UINT64 = 0x05
 BYTES = 0x42
 SIZE_OF_TYPE = {0x04: 4, 0x05: 8, 0x08: 1, 0x0C: 4, 0x0D: 8, 0x18: None, 0x42: None}
 
 AES_KDF = bytes.fromhex("C9D9F39A628A4460BF740D08C18A4FEA")
+ARGON2D = bytes.fromhex("EF636DDF8C29444B91F7A9A403E30A0C")
+ARGON2ID = bytes.fromhex("9E298B1956DB4773B23DFC3EC6F0A1E6")
+# Item 6: "Items: V (UInt32), S (bytes), I and M (UInt64), P (UInt32)."
+ARGON2_ITEMS = {b"V": UINT32, b"S": BYTES, b"I": UINT64, b"M": UINT64, b"P": UINT32}
 
 
 class Item:
@@ -61,9 +67,9 @@ def items(data):
 
 
 def needed(found, name, kind, size):
-    """An item that has to be there with this type and size, else 10."""
+    """An item that has to be there with this type and size (None: any), else 10."""
     item = found.get(name)
-    require(item is not None and item.kind == kind and len(item.value) == size, DICTIONARY)
+    require(item is not None and item.kind == kind and size in (None, len(item.value)), DICTIONARY)
     return item.value
 
 
@@ -75,8 +81,32 @@ def aes_kdf_figures(found):
     return {"kind": "aeskdf", "S": seed, "R": rounds}
 
 
-# A KDF's identifier, and what its dictionary asks for.
-KDFS = {AES_KDF: aes_kdf_figures}
+def argon2_within(salt, passes, memory, lanes):
+    """ "then 22 for a figure outside". R: in the order S, I, M, P, and last too little M for P."""
+    require(len(salt) in SALT_LENGTHS, KDF_FIGURE)
+    require(passes in PASSES, KDF_FIGURE)
+    require(memory in MEMORY, KDF_FIGURE)
+    require(lanes in LANES, KDF_FIGURE)
+    require(memory >= MEMORY_OF_LANE * lanes, KDF_FIGURE)
+
+
+def argon2_figures(kind, found):
+    """ "in the KDF's place, 10 for an absent or wrongly typed item, then 9 for another V or an item K or A, then 22".
+    R: all five are present and rightly typed first; K and A are 9 whatever their type."""
+    value = {name: needed(found, name, type_, None) for name, type_ in ARGON2_ITEMS.items()}
+    version, passes, memory, lanes = (uint(value[name]) for name in (b"V", b"I", b"M", b"P"))
+    require(version == ARGON2_VERSION, UNLISTED_ALGORITHM)
+    require(b"K" not in found and b"A" not in found, UNLISTED_ALGORITHM)
+    argon2_within(value[b"S"], passes, memory, lanes)
+    return {"kind": kind, "V": version, "S": value[b"S"], "I": passes, "M": memory, "P": lanes}
+
+
+# A KDF's identifier, and what its dictionary asks for. R: AES-KDF's dictionary may hold items named K or A.
+KDFS = {
+    AES_KDF: aes_kdf_figures,
+    ARGON2D: lambda found: argon2_figures("argon2d", found),
+    ARGON2ID: lambda found: argon2_figures("argon2id", found),
+}
 
 
 def kdf_figures(data):

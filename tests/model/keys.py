@@ -1,6 +1,10 @@
-"""Keys (document 01, "Keys")."""
+"""Keys (document 01, "Keys"; document 02, Item 6)."""
 
-from .limits import AFTER_END, CREDENTIAL, FILE_LIMIT, ROUNDS, ROUNDS_LIMIT, require, within
+from . import primitives
+from .dictionary import argon2_within
+from .limits import (
+    AFTER_END, CREDENTIAL, FILE_LIMIT, LENT_TOO_SHORT, ROUNDS, ROUNDS_LIMIT, UNLISTED_ALGORITHM, require, within,
+)
 from .primitives import aes_blocks, hmac_sha256, sha256, sha512
 
 HEADER_NUMBER = 2**64 - 1
@@ -54,6 +58,20 @@ def transformed(composite_key, seed, rounds):
     run = Rounds(composite_key, seed, rounds)
     run.helping(rounds)
     return run.transformed()
+
+
+def argon2_words(memory, lanes):
+    """ "128 words a block that RFC 9106 fills". R: m' = 4P⌊m / 4P⌋ blocks with m = ⌊M / 1024⌋."""
+    return 128 * (4 * lanes * (memory // 1024 // (4 * lanes)))
+
+
+def argon2(kind, composite_key, salt, passes, memory, lanes, lent=None):
+    """T: "Follow RFC 9106 with the composite key as password, 32 bytes out, memory M/1024 rounded down in KiB"; "a run
+    checks 22, then 17 for under 128 words a block that RFC 9106 fills". Before them 9 for another KDF."""
+    require(kind in ("argon2d", "argon2id"), UNLISTED_ALGORITHM)
+    argon2_within(salt, passes, memory, lanes)
+    require(lent is None or lent >= argon2_words(memory, lanes), LENT_TOO_SHORT)
+    return primitives.argon2(kind, composite_key, salt, passes, memory // 1024, lanes)
 
 
 def cipher_key(master_seed, t):

@@ -1,10 +1,18 @@
-"""Refusal numbers and limits (document 01, "Numbers of the terminal" and "Refusal numbers")."""
+"""Refusal numbers and limits (document 01, "Numbers of the terminal" and "Refusal numbers"; document 02, Item 6)."""
 
 FILE_LIMIT = 4_194_304  # file or payload, read or written; password; key file
 MESSAGE_LIMIT = 8_388_608  # one hash or tag message in all
 ROUNDS_LIMIT = 4_000_000
 WRITTEN_BLOCK = 16_384  # bytes of ciphertext in a written block
 PROGRAM_LIMIT = 65_536  # a PC program's input
+
+# Item 6: "Accept V 0x13, S of 8 to 64 bytes, I 1 to 64, M 8,192 to 67,108,864, P 1 to 16, M at least 8,192 times P."
+ARGON2_VERSION = 0x13
+SALT_LENGTHS = range(8, 64 + 1)
+PASSES = range(1, 64 + 1)
+MEMORY = range(8_192, 67_108_864 + 1)
+LANES = range(1, 16 + 1)
+MEMORY_OF_LANE = 8_192
 
 OVER_LIMIT = 1
 CUT_SHORT = 2
@@ -25,6 +33,7 @@ PADDING = 16
 LENT_TOO_SHORT = 17
 CREDENTIAL = 18
 AFTER_END = 19
+KDF_FIGURE = 22
 
 
 class Refusal(Exception):

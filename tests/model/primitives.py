@@ -1,9 +1,10 @@
-"""The named standards, from OpenSSL: FIPS 180-4, RFC 2104, FIPS 197 with SP 800-38A, RFC 8439."""
+"""The named standards, from OpenSSL: FIPS 180-4, RFC 2104, FIPS 197 with SP 800-38A, RFC 8439, RFC 9106."""
 
 import hashlib
 import hmac
 
 from cryptography.hazmat.primitives.ciphers import Cipher, algorithms, modes
+from cryptography.hazmat.primitives.kdf.argon2 import Argon2d, Argon2id
 
 
 def sha256(*parts):
@@ -40,3 +41,10 @@ def chacha20(key, nonce, data):
     """ChaCha20 with the counter from 0; it is its own inverse."""
     counter = bytes(4)
     return Cipher(algorithms.ChaCha20(key, counter + nonce), None).encryptor().update(data)
+
+
+def argon2(kind, password, salt, passes, kibibytes, lanes):
+    """32 bytes of Argon2d or Argon2id, version 0x13, without secret and associated data."""
+    variant = {"argon2d": Argon2d, "argon2id": Argon2id}[kind]
+    run = variant(salt=salt, length=32, iterations=passes, lanes=lanes, memory_cost=kibibytes)
+    return run.derive(password)

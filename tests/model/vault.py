@@ -1,14 +1,14 @@
 """The file behind the header: the whole opener, the plain opener of demand 3, the writer.
 
-Document 01, "File after the header".
+Document 01, "File after the header"; document 02, Item 6.
 """
 
 from dataclasses import dataclass, replace
 
 from . import dictionary, header as outer, keys
 from .limits import (
-    AFTER_END, BLOCK_TAG, BYTES_AFTER, CUT_SHORT, FILE_LIMIT, HEADER_HASH, HEADER_TAG, LENT_TOO_SHORT, PADDING, ROUNDS,
-    ROUNDS_LIMIT, SIZE, UNLISTED_ALGORITHM, VERSION, WRITTEN_BLOCK, Refusal, int32, require, within,
+    AFTER_END, ARGON2_VERSION, BLOCK_TAG, BYTES_AFTER, CUT_SHORT, FILE_LIMIT, HEADER_HASH, HEADER_TAG, LENT_TOO_SHORT,
+    PADDING, ROUNDS, ROUNDS_LIMIT, SIZE, UNLISTED_ALGORITHM, VERSION, WRITTEN_BLOCK, Refusal, int32, require, within,
 )
 from .primitives import cbc_decrypt, cbc_encrypt, chacha20, sha256
 
@@ -180,6 +180,21 @@ def written_aes_kdf(seed, rounds):
     )
 
 
+def written_argon2(identifier, salt, passes, memory, lanes):
+    """ "the writer writes all three, items in byte order of their names". R: `$UUID`, `I`, `M`, `P`, `S`, `V`, V as
+    0x13."""
+    return (
+        b"\x00\x01"
+        + written_item(dictionary.BYTES, b"$UUID", identifier)
+        + written_item(dictionary.UINT64, b"I", passes.to_bytes(8, "little"))
+        + written_item(dictionary.UINT64, b"M", memory.to_bytes(8, "little"))
+        + written_item(dictionary.UINT32, b"P", lanes.to_bytes(4, "little"))
+        + written_item(dictionary.BYTES, b"S", salt)
+        + written_item(dictionary.UINT32, b"V", ARGON2_VERSION.to_bytes(4, "little"))
+        + b"\x00"
+    )
+
+
 def written_header(minor, cipher, seed, nonce, kdf_dictionary, custom):
     """ "Fields are 2, 3, 4, 7, 11, 12, 0"; "custom dictionary (zero length: field absent)"."""
     parts = [value.to_bytes(4, "little") for value in outer.SIGNATURES]
@@ -207,8 +222,8 @@ def written_blocks(base, ciphertext):
     return b"".join(written_block(base, number, content) for number, content in enumerate(contents + [b""]))
 
 
-def kdf_checked(kdf):
-    """The KDF's part of the writer's 5 and 11, as functions, and its dictionary."""
+def aes_kdf_checked(kdf):
+    """AES-KDF's part of the writer's 5 and 11, as functions, and its dictionary."""
     seed, rounds = kdf["S"], kdf["R"]
     return (
         lambda: require(len(seed) == 32, SIZE),
@@ -217,12 +232,32 @@ def kdf_checked(kdf):
     )
 
 
+def argon2_checked(identifier, kdf):
+    """ "22 for a figure outside, the writer's salt length included". R: the writer's 22 stands in 11's place, and
+    Argon2's salt length is no 5."""
+    figures = kdf["S"], kdf["I"], kdf["M"], kdf["P"]
+    return (
+        lambda: None,
+        lambda: dictionary.argon2_within(*figures),
+        lambda: written_argon2(identifier, *figures),
+    )
+
+
+# What the writer has of each KDF: its 5, its 11 or 22, and its dictionary.
+KDFS = {
+    "aeskdf": aes_kdf_checked,
+    "argon2d": lambda kdf: argon2_checked(dictionary.ARGON2D, kdf),
+    "argon2id": lambda kdf: argon2_checked(dictionary.ARGON2ID, kdf),
+}
+
+
 def write(minor, cipher, seed, nonce, kdf, custom, t, plain, lent=None):
     """The file. "Order: 4, 9, 5 (seeds, nonce), 11, 10 or 6, 1, 17." """
     require(minor in (0, 1), VERSION)
     require(cipher in outer.CIPHER_NAMES, UNLISTED_ALGORITHM)
+    require(kdf["kind"] in KDFS, UNLISTED_ALGORITHM)
     name = outer.CIPHER_NAMES[cipher]
-    seed_check, figures_check, kdf_dictionary = kdf_checked(kdf)
+    seed_check, figures_check, kdf_dictionary = KDFS[kdf["kind"]](kdf)
     # R: any wrong length among seeds and nonce is one 5.
     require(len(seed) == 32 and len(nonce) == outer.NONCE_LENGTH[name], SIZE)
     seed_check()
