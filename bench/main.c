@@ -11,8 +11,8 @@
 #include <time.h>
 #include <ucontext.h>
 
-extern const struct family sha2, hmac, aes, chacha20, opening, writing;
-static const struct family *const families[] = {&sha2, &hmac, &aes, &chacha20, &opening, &writing};
+extern const struct family sha2, hmac, aes, chacha20, argon2, opening, writing;
+static const struct family *const families[] = {&sha2, &hmac, &aes, &chacha20, &argon2, &opening, &writing};
 #define FAMILIES (sizeof families / sizeof *families)
 
 uint8_t message[MESSAGE_LIMIT + 1], key[64], ours[RESULT_LIMIT], peers[RESULT_LIMIT];

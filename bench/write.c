@@ -20,8 +20,8 @@ static struct {
 // What ours writes: the number that it answers.
 static uint8_t write_ours(enum cipher cipher, size_t n, size_t room, size_t *count) {
     const uint8_t *id = (const uint8_t *)identifiers[cipher];
-    return kdbx4_write(MINOR, id, 16, SEED, 32, NONCE, nonce_length[cipher], KDF_SEED, 32, ROUNDS, message, 0,
-                       transformed, message, n, written, room, count);
+    return kdbx4_write(MINOR, id, 16, SEED, 32, NONCE, nonce_length[cipher], KDBX4_AES_KDF, KDF_SEED, 32, ROUNDS, 0,
+                       0, message, 0, transformed, message, n, written, room, count);
 }
 
 // Makes the header of a cipher, unless it is there.
