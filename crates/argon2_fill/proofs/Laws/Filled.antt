@@ -6,27 +6,18 @@
 --   length-filled                    as long as it was
 --   filled-argon2d, filled-argon2id  the filling of each type, by its own chooser
 -- Assumes nothing.
-use mathlib.Core.Path.{_≡_, refl, ap, _∙_}
+use mathlib.Core.Path.{_≡_, ap, _∙_}
 use mathlib.Core.Bool.{Bool, true, false, _&&_}
 use mathlib.Core.List.{List}
 use Prim.Native.Nat.{ℕ, _*_, _≤_}
-use native.Mathlib.Omega.{arith}
 use lib.Dec.{ltb, leb}
 use lib.ListN.{length}
 use borrow.Author.Tests.{ltb-true, leb-true}
-use Rattle.words.proofs.Laws.Cases.{by-bool}
+use Rattle.words.proofs.Laws.Cases.{by-bool, and-true}
 use Rattle.argon2_fill.specs.Rfc9106.{Figures, blocks, fill, dependent, argon2id, chooser}
 use Rattle.argon2_fill.specs.State.{Fits, accepts, filled}
 use Rattle.argon2_fill.proofs.Laws.Chooser.{chooser-argon2d, chooser-argon2id}
 use Rattle.argon2_fill.proofs.Laws.Segments.{length-passes}
-
-and-l : (a b : Bool) → (a && b) ≡ true → a ≡ true
-and-l true b e = refl
-and-l false b e = e
-
-and-r : (a b : Bool) → (a && b) ≡ true → b ≡ true
-and-r true b e = e
-and-r false b e = let z : _≡_ {A = ℕ} 0 1 = cc in absurd (omega arith)
 
 module _ (f : Figures) (n : ℕ) (t : accepts f n ≡ true) where
   abbrev c₁ : Bool
@@ -42,25 +33,25 @@ module _ (f : Figures) (n : ℕ) (t : accepts f n ≡ true) where
   c₄ = leb (f .lanes) 16 && c₃
 
   t₄ : c₄ ≡ true
-  t₄ = and-r (ltb 0 (f .lanes)) c₄ t
+  t₄ = and-true (ltb 0 (f .lanes)) c₄ t .1
 
   t₃ : c₃ ≡ true
-  t₃ = and-r (leb (f .lanes) 16) c₃ t₄
+  t₃ = and-true (leb (f .lanes) 16) c₃ t₄ .1
 
   t₂ : c₂ ≡ true
-  t₂ = and-r (leb 2 (f .segment)) c₂ t₃
+  t₂ = and-true (leb 2 (f .segment)) c₂ t₃ .1
 
   pub accepts-fits : Fits f
   accepts-fits =
       record {
-        some = ltb-true 0 (f .lanes) (and-l (ltb 0 (f .lanes)) c₄ t);
-        few = leb-true (f .lanes) 16 (and-l (leb (f .lanes) 16) c₃ t₄);
-        long = leb-true 2 (f .segment) (and-l (leb 2 (f .segment)) c₂ t₃);
-        short = leb-true (f .segment) 16384 (and-l (leb (f .segment) 16384) c₁ t₂);
+        some = ltb-true 0 (f .lanes) (and-true (ltb 0 (f .lanes)) c₄ t .0);
+        few = leb-true (f .lanes) 16 (and-true (leb (f .lanes) 16) c₃ t₄ .0);
+        long = leb-true 2 (f .segment) (and-true (leb 2 (f .segment)) c₂ t₃ .0);
+        short = leb-true (f .segment) 16384 (and-true (leb (f .segment) 16384) c₁ t₂ .0);
       }
 
   pub accepts-room : blocks f * 128 ≤ n
-  accepts-room = leb-true (blocks f * 128) n (and-r (leb (f .segment) 16384) c₁ t₂)
+  accepts-room = leb-true (blocks f * 128) n (and-true (leb (f .segment) 16384) c₁ t₂ .1)
 
 pub filled-is : (f : Figures) (m : List ℕ) → accepts f (length m) ≡ true → filled f m ≡ fill (chooser f) f m
 unfolding filled
