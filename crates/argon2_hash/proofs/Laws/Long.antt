@@ -6,7 +6,7 @@
 --   length-firsts, firsts-none, firsts-more  their first halves, laid into a slice
 --   short-is, longer-is                   a slice so filled holds H'
 --   length-longHash                       H'^T has T bytes
---   filled-short, fill-accepts            what `fill` answers to messages that Argon2 has
+--   filled-short                          what `fill` makes of a slice for messages that Argon2 has
 -- Assumes nothing.
 use mathlib.Core.Path.{_≡_, refl, sym, ap, _∙_}
 use mathlib.Core.Bool.{cond}
@@ -25,12 +25,11 @@ use Rattle.words.proofs.Laws.Cases.{by-bool}
 use Rattle.slices.specs.Over.{over, laid, putAt}
 use Rattle.slices.proofs.Laws.Over.{over-nil, over-all, over-fits}
 use Rattle.slices.proofs.Laws.Put.{laid-first, laid-more}
-use Rattle.refusals.specs.declared.Outcome.the-variants.{Accepted}
 use Rattle.refusals.specs.Limits.{messageLimit}
 use Rattle.blake2b.specs.Rfc7693.{full, blake2b}
 use Rattle.blake2b.proofs.Laws.Feeding.{length-full}
 use Rattle.blake2b.proofs.Parts.{length-blake2b}
-use Rattle.argon2_hash.specs.LongHash.{wholes, value, firsts, longer, longHash, filled, fillOutcome}
+use Rattle.argon2_hash.specs.LongHash.{wholes, value, firsts, longer, longHash, filled}
 
 pub full-64 : (m : List ℕ) → full 64 m ≡ blake2b 64 m
 unfolding blake2b
@@ -131,7 +130,3 @@ within n h = omega arith
 pub filled-short : (a d : List ℕ) → length a ≤ 2048 → filled a d ≡ longHash (length d) a
 unfolding filled
 filled-short a d h = rw (le-leb _ _ (within (length a) h))
-
-pub fill-accepts : (a : List ℕ) → length a ≤ 2048 → fillOutcome a ≡ Accepted
-unfolding fillOutcome
-fill-accepts a h = rw (le-leb _ _ (within (length a) h))
