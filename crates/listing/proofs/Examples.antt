@@ -12,6 +12,7 @@ use lib.ListN.{replicate}
 use Rattle.words.specs.Endian.{le, leBytes}
 use Rattle.words.specs.Size.{int32}
 use Rattle.slices.specs.Same.{same}
+use Rattle.hex.specs.Rfc4648.{digit, byteDigits, encode}
 use Rattle.refusals.specs.Limits.{fileLimit, roundsLimit, programLimit}
 use Rattle.fields.specs.Fields.{fits, valueAt, fieldAt, fieldBytes}
 use Rattle.ciphers.specs.Ciphers.{identifier, cipherOf, nonceLength}
@@ -22,7 +23,7 @@ use Rattle.kdf_dictionary.specs.Kdf.{aesKdfBytes}
 use Rattle.kdf_dictionary.specs.KdfDictionary.{typedIn, aesKdfIn, aesKdfOf, listedAs, listedIn, uuidIn, uuidOf, kdfIn, kdfOf}
 use Rattle.outer_header.specs.Kdbx4Header as kdbx4
 use Rattle.outer_header.specs.Frames.{fieldFrames, frames}
-use Rattle.listing.specs.Listing.{hexDigit, hexByte, hexLine, hexLines, refusalLine, textOf, text}
+use Rattle.listing.specs.Listing.{hexLine, hexLines, refusalLine, textOf, text}
 
 -- the bytes of a text of ASCII
 ascii : String → List ℕ
@@ -54,5 +55,5 @@ listed : text chaChaHeader
     ++ ascii "0501000000520800000001000000000000004201000000532000000033333333333333333333"
     ++ ascii "3333333333333333333333333333333333333333333300\n"
     ++ ascii "00040000000D0A0D0A\n"
-unfolding ascii text textOf hexLines hexLine hexByte hexDigit flatMap frames fieldFrames kdbx4.header kdbx4.body kdbx4.judgedIn kdbx4.judged kdbx4.identified kdbx4.figures kdbx4.figuresIn kdbx4.customOf kdbx4.complete kdbx4.walk kdbx4.walkIn kdbx4.endsRight kdbx4.fieldHere kdbx4.noFields kdbx4.put kdbx4.seen kdbx4.sizeRule kdbx4.listed fieldAt valueAt fits int32 le leBytes same fieldBytes aesKdfBytes itemBytes identifier cipherOf nonceLength kdfOf kdfIn uuidOf uuidIn listedAs listedIn aesKdfOf aesKdfIn typedIn roundsLimit fileLimit programLimit dictionary.verdict dictionary.walk dictionary.walkIn dictionary.named dictionary.namedIn dictionary.entryAt dictionary.nameAt dictionary.valueAt dictionary.sizeFits dictionary.searchFrom dictionary.searchIn
+unfolding ascii text textOf hexLines hexLine encode byteDigits digit flatMap frames fieldFrames kdbx4.header kdbx4.body kdbx4.judgedIn kdbx4.judged kdbx4.identified kdbx4.figures kdbx4.figuresIn kdbx4.customOf kdbx4.complete kdbx4.walk kdbx4.walkIn kdbx4.endsRight kdbx4.fieldHere kdbx4.noFields kdbx4.put kdbx4.seen kdbx4.sizeRule kdbx4.listed fieldAt valueAt fits int32 le leBytes same fieldBytes aesKdfBytes itemBytes identifier cipherOf nonceLength kdfOf kdfIn uuidOf uuidIn listedAs listedIn aesKdfOf aesKdfIn typedIn roundsLimit fileLimit programLimit dictionary.verdict dictionary.walk dictionary.walkIn dictionary.named dictionary.namedIn dictionary.entryAt dictionary.nameAt dictionary.valueAt dictionary.sizeFits dictionary.searchFrom dictionary.searchIn
 listed = refl

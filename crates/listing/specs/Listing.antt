@@ -1,19 +1,20 @@
 -- The text of the header listing program: document 01, "Numbers to meet".
 --
---   ".. as a line of upper-case hexadecimal"                       hexDigit, hexByte, hexLine
+--   ".. as a line of upper-case hexadecimal"                       hexLine
 --   "if the header is accepted, prints each frame .."              hexLines, frameLines, fieldLines, textOf
 --   "Otherwise one line, R and two decimal digits"                 refusalLine, textOf
 --   "a PC program's input: 65,536 bytes", else R01                 text
 --   "the lent output is shorter than the bytes due" (17)           answer, after
 -- Every line ends with a line feed, and nothing is printed for bytes behind the header.
--- Not here: the frames (crate outer_header, Frames).
+-- Not here: the frames (crate outer_header, Frames), hexadecimal digits (crate hex, Rfc4648).
 -- Assumes nothing.
 use mathlib.Core.Bool.{cond}
 use mathlib.Core.List.{List, [], _∷_, _++_, flatMap}
-use Prim.Native.Nat.{ℕ, _+_, _-_, _/_, _%_}
-use lib.Dec.{leb, ltb}
+use Prim.Native.Nat.{ℕ, _+_, _/_, _%_}
+use lib.Dec.{leb}
 use lib.ListN.{length}
 use Rattle.slices.specs.Over.{over}
+use Rattle.hex.specs.Rfc4648.{encode}
 use Rattle.refusals.specs.declared.Refusal.{Refusal}
 use Rattle.refusals.specs.declared.Refusal.the-variants.{TooLong, NoRoom}
 use Rattle.refusals.specs.declared.Written.{Written}
@@ -25,15 +26,8 @@ use Rattle.outer_header.specs.declared.Reading.the-variants as read
 use Rattle.outer_header.specs.Kdbx4Header.{header}
 use Rattle.outer_header.specs.Frames.{fieldFrames, frames}
 
--- 0 to 9 and A to F
-unfoldable pub hexDigit : ℕ → ℕ
-hexDigit n = cond (ltb n 10) (0x30 + n) (0x41 + (n - 10))
-
-unfoldable pub hexByte : ℕ → List ℕ
-hexByte b = hexDigit (b / 16) ∷ hexDigit (b % 16) ∷ []
-
 unfoldable pub hexLine : List ℕ → List ℕ
-hexLine frame = flatMap hexByte frame ++ (0x0A ∷ [])
+hexLine frame = encode frame ++ (0x0A ∷ [])
 
 unfoldable pub hexLines : List (List ℕ) → List ℕ
 hexLines fs = flatMap hexLine fs

@@ -19,30 +19,14 @@ use outer_header::Reading;
 use refusals::Refusal;
 use refusals::Written;
 
-// The digit of a number below sixteen, in upper case.
-fn hex_digit(n: u8) -> u8
-    requires { ⌜ n < 16 ⌝ }
-    ensures { λ r. ⌜ r ≡ listing.hexDigit n ⌝ }
-{
-    if n < 10 {
-        return b'0' + n;
-    }
-    b'A' + (n - 10)
-}
-
 // Writes a frame's line over the front of `out`.
 fn put_line(out: &mut [u8], frame: &[u8])
     requires { ⌜ 2 * length (now frame) < length (now out) ⌝ }
     ensures { λ _. ⌜ now (out .exit) ≡ over (listing.hexLine (now (frame .entry))) (now (out .entry)) ⌝ }
 {
-    let mut i: usize = 0;
-    while i < frame.len() {
-        let b = frame[i];
-        out[2 * i] = hex_digit(b / 16);
-        out[2 * i + 1] = hex_digit(b % 16);
-        i += 1;
-    }
-    out[2 * i] = b'\n';
+    let n = frame.len();
+    hex::encode(out, frame);
+    out[2 * n] = b'\n';
 }
 
 // How many bytes the field at a place has, which stands there whole.
