@@ -1,8 +1,8 @@
--- The keys of a KDBX 4 vault: document 01, "Keys", with the published page's "Computation of Keys" behind it.
+-- The keys of a KDBX 4 vault: document 01, "Keys", with the published page's "Computation of Keys" behind it; of the key
+-- file document 02, Item 2, which supersedes document 01's sentence.
 --
 --   "Password gives SHA-256 of its bytes"                                passwordPart
---   "A key file of 32 bytes is taken as it stands; of any other length
---    it is hashed with SHA-256"                                          keyFilePart
+--   Item 2: "32 bytes as they stand, 64 digits decoded, all else hashed"  keyFilePart
 --   "The composite key is SHA-256 of the parts given, password first"    parts, compositeOf
 --   "A pre-hash is the composite key itself"                             compositeOf
 --   "Order: lengths (1), then 18"                                        composite
@@ -11,12 +11,13 @@
 --   "The tag key for number i is SHA-512(i as UInt64, base)"             tagKey
 -- Not here: T itself (the key transformation).
 -- Assumes nothing.
-use mathlib.Core.Bool.{Bool, true, false, cond, not, _||_}
+use mathlib.Core.Bool.{Bool, true, false, cond, not, _&&_, _||_}
 use mathlib.Core.List.{List, [], _∷_, _++_}
 use Prim.Native.Nat.{ℕ}
 use lib.Dec.{eqb, leb}
 use lib.ListN.{length, replicate}
 use Rattle.words.specs.Endian.{leBytes}
+use Rattle.hex.specs.Rfc4648.{allDigits, decode}
 use Rattle.refusals.specs.declared.Refusal.{Refusal}
 use Rattle.refusals.specs.declared.Refusal.the-variants.{TooLong, WrongCredential}
 use Rattle.refusals.specs.declared.Outcome.{Outcome}
@@ -48,8 +49,12 @@ refused r = record { outcome = Refused r; key = replicate 32 0 }
 abbrev pub passwordPart : List ℕ → List ℕ
 passwordPart s = hash sha256 s
 
-abbrev pub keyFilePart : List ℕ → List ℕ
-keyFilePart s = cond (eqb (length s) 32) s (hash sha256 s)
+-- exactly 64 bytes, each a hexadecimal digit in either case
+abbrev pub isHexKey : List ℕ → Bool
+isHexKey s = eqb (length s) 64 && allDigits s
+
+unfoldable pub keyFilePart : List ℕ → List ℕ
+keyFilePart s = cond (eqb (length s) 32) s (cond (isHexKey s) (decode s) (hash sha256 s))
 
 -- over its limit, where it is given
 abbrev pub over : ℕ → Credential → Bool

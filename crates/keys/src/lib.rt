@@ -1,5 +1,5 @@
-// The keys of a vault (document 01, "Keys"): the composite key from what the user has, and the cipher key and tag keys
-// from the transformed key T and the header's master seed.
+// The keys of a vault (document 01, "Keys"; the key file: document 02, Item 2): the composite key from what the user
+// has, and the cipher key and tag keys from the transformed key T and the header's master seed.
 //
 // The contracts cite specs/Kdbx4Keys. A credential is a slice with a flag that says whether it was given: an empty
 // password is a part of the key, an absent one is not. Refusals, in order: 1 for a password or key file over its limit;
@@ -57,7 +57,17 @@ fn hash_two(a: [u8; 32], b: [u8; 32]) -> [u8; 32]
     Sha256::start().feed(&a).next.feed(&b).next.finish()
 }
 
-// A key file's part: 32 bytes as they stand, any other length hashed.
+// Whether a key file is 64 hexadecimal digits.
+fn is_hex_key(s: &[u8]) -> bool
+    ensures { λ r. ⌜ r ≡ kdbx4.isHexKey (now (s .entry)) ⌝ }
+{
+    if s.len() != 64 {
+        return false;
+    }
+    hex::all_digits(s)
+}
+
+// A key file's part: 32 bytes as they stand, 64 digits decoded, all else hashed.
 fn key_file_part(s: &[u8]) -> [u8; 32]
     requires { ⌜ length (now s) ≤ messageLimit ⌝ }
     ensures { λ r. ⌜ r ≡ kdbx4.keyFilePart (now (s .entry)) ⌝ }
@@ -65,6 +75,11 @@ fn key_file_part(s: &[u8]) -> [u8; 32]
     if s.len() == 32 {
         let mut part = [0u8; 32];
         slices::copy(&mut part, s);
+        return part;
+    }
+    if is_hex_key(s) {
+        let mut part = [0u8; 32];
+        hex::decode(&mut part, s);
         return part;
     }
     hash_of(s)
