@@ -3,6 +3,7 @@
 -- In order:
 --   keyFilePart-32, -digits, -other, -hashed    each of the three, by what the file is
 --   keyFilePart-case        both cases of a digit give the same part
+--   keyFilePart-encode      the digits of 32 bytes give those bytes
 --   length-keyFilePart      the part has 32 bytes
 --   formerPart              document 01's rule, which Item 2 supersedes
 --   keyFilePart-former      no other file's part changed
@@ -17,9 +18,10 @@ use native.Mathlib.Omega.{arith}
 use lib.Dec.{eqb}
 use lib.ListN.{length, getD, length-map}
 use borrow.Author.Tests.{eq-eqb, ne-eqb, eqb-true, eqb-false}
+use Rattle.words.specs.Endian.{Bytes}
 use Rattle.words.proofs.Laws.Cases.{by-bool, and-true}
-use Rattle.hex.specs.Rfc4648.{isDigit, upperCase, allDigits, decode}
-use Rattle.hex.proofs.Laws.Texts.{every-not, length-decode, decode-upperCase, allDigits-upperCase}
+use Rattle.hex.specs.Rfc4648.{isDigit, upperCase, allDigits, encode, decode}
+use Rattle.hex.proofs.Laws.Texts.{every-not, length-encode, length-decode, allDigits-encode, decode-encode, decode-upperCase, allDigits-upperCase}
 use Rattle.sha2.specs.Fips180.{sha256, hash}
 use Rattle.sha2.proofs.Laws.Lengths.{length-iv256, length-hash}
 use Rattle.keys.specs.Kdbx4Keys.{isHexKey, keyFilePart}
@@ -66,6 +68,11 @@ keyFilePart-case s t e d m =
     keyFilePart-digits s e d
     ∙ sym (decode-upperCase s) ∙ ap decode m ∙ decode-upperCase t
     ∙ sym (keyFilePart-digits t (omega arith) g)
+
+-- 32 bytes typed as digits are the key that they are as bytes
+pub keyFilePart-encode : (s : List ℕ) → length s ≡ 32 → Bytes s → keyFilePart (encode s) ≡ s
+keyFilePart-encode s e b =
+    keyFilePart-digits (encode s) (omega (arith, length-encode s)) (allDigits-encode s b) ∙ decode-encode s b
 
 pub length-decoded : (s : List ℕ) → isHexKey s ≡ true → length (decode s) ≡ 32
 length-decoded s t =

@@ -4,7 +4,7 @@
 --   between-true                         what the test of a run of characters tells
 --   value-lt                             a value is below 16
 --   value-digit, isWritten-digit         the digit of a value
---   digit-value                          the value of a digit in upper case
+--   isDigit-isWritten, digit-value       a digit in upper case, and its value
 --   value-upperCase, isDigit-upperCase   both cases of a digit have one value, and both are digits
 -- Assumes nothing.
 use mathlib.Core.Path.{_≡_, sym, ap, _∙_}
@@ -44,6 +44,10 @@ value-digit n h = same-below (λ k. value (digit k)) (λ k. k) 16 tt n h
 pub isWritten-digit : (n : ℕ) → n < 16 → isWritten (digit n) ≡ true
 unfolding isWritten digit
 isWritten-digit n h = is-true (isWritten (digit n)) (below-at (λ k. isWritten (digit k)) 16 tt n h)
+
+pub isDigit-isWritten : (c : ℕ) → isWritten c ≡ true → isDigit c ≡ true
+unfolding isWritten isDigit
+isDigit-isWritten c w = rw w
 
 pub digit-value : (c : ℕ) → isWritten c ≡ true → digit (value c) ≡ c
 unfolding isWritten value digit

@@ -5,7 +5,7 @@
 --   length-encode, length-decode
 --   getD-encode-high, -low    a byte's two digits by index
 --   getD-decode               two digits' byte by index
---   every-encode              what is written is in upper case
+--   every-encode, allDigits-encode    what is written is digits, in upper case
 --   decode-encode             decoding undoes encoding, of any bytes
 --   encode-decode             encoding undoes decoding, of any even number of digits in upper case
 --   decode-upperCase, allDigits-upperCase    both cases of a digit are read alike
@@ -20,7 +20,7 @@ use lib.ListN.{length, getD}
 use Rattle.words.specs.Endian.{Bytes}
 use Rattle.words.proofs.Laws.Cases.{and-true}
 use Rattle.hex.specs.Rfc4648.{digit, isWritten, isDigit, value, upperCase, every, allDigits, byteDigits, encode, decode}
-use Rattle.hex.proofs.Laws.Digits.{value-lt, value-digit, isWritten-digit, digit-value, value-upperCase, isDigit-upperCase}
+use Rattle.hex.proofs.Laws.Digits.{value-lt, value-digit, isWritten-digit, isDigit-isWritten, digit-value, value-upperCase, isDigit-upperCase}
 
 pub every-not : (test : ℕ → Bool) (t : List ℕ) (i : ℕ) → i < length t → test (getD t i 0) ≡ false → every test t ≡ false
 unfolding every
@@ -75,6 +75,17 @@ every-encode (b ∷ s) p =
       isWritten-digit (b / 16) (omega arith),
       isWritten-digit (b % 16) (omega arith),
     ) (every-encode s (λ i. p (suc i)))
+
+every-implies : (p q : ℕ → Bool) → ((c : ℕ) → p c ≡ true → q c ≡ true) → (t : List ℕ) → every p t ≡ true
+    → every q t ≡ true
+unfolding every
+every-implies p q f [] e = refl
+every-implies p q f (c ∷ t) e =
+    let b = and-true (p c) (every p t) e in
+    rw (f c (b .0), every-implies p q f t (b .1))
+
+pub allDigits-encode : (s : List ℕ) → Bytes s → allDigits (encode s) ≡ true
+allDigits-encode s p = every-implies isWritten isDigit isDigit-isWritten (encode s) (every-encode s p)
 
 pub decode-encode : (s : List ℕ) → Bytes s → decode (encode s) ≡ s
 unfolding decode encode flatMap byteDigits
