@@ -4,6 +4,7 @@
 --   two digits a byte, the upper four bits first  byteDigits, encode, decode
 -- It is "the standard case-insensitive hex encoding": what is written is in upper case, and digits of both cases are
 -- read. Characters are their codes in ASCII.
+-- Left out: the other bases.
 -- Differs: decoding is total. A character that is no digit counts as 0, and a last one that has no other beside it is
 -- left out; whether all are digits is `allDigits`.
 -- Assumes nothing.
@@ -24,27 +25,31 @@ between first last c = leb first c && leb c last
 abbrev pub isDecimal : ℕ → Bool
 isDecimal c = between 0x30 0x39 c
 
-abbrev pub isUpper : ℕ → Bool
-isUpper c = between 0x41 0x46 c
+abbrev pub isUpperLetter : ℕ → Bool
+isUpperLetter c = between 0x41 0x46 c
 
-abbrev pub isLower : ℕ → Bool
-isLower c = between 0x61 0x66 c
+abbrev pub isLowerLetter : ℕ → Bool
+isLowerLetter c = between 0x61 0x66 c
 
--- a digit in upper case, as it is written
-unfoldable pub isWritten : ℕ → Bool
-isWritten c = isDecimal c || isUpper c
+-- a digit as it is written, in upper case
+unfoldable pub isUpperDigit : ℕ → Bool
+isUpperDigit c = isDecimal c || isUpperLetter c
 
 -- a digit in either case
 unfoldable pub isDigit : ℕ → Bool
-isDigit c = isDecimal c || isUpper c || isLower c
+isDigit c = isDecimal c || isUpperLetter c || isLowerLetter c
 
 -- the value of a digit
 unfoldable pub value : ℕ → ℕ
-value c = cond (isDecimal c) (c - 0x30) (cond (isUpper c) (c - 0x41 + 10) (cond (isLower c) (c - 0x61 + 10) 0))
+value c =
+    cond (isDecimal c) (c - 0x30)
+    (cond (isUpperLetter c) (c - 0x41 + 10)
+    (cond (isLowerLetter c) (c - 0x61 + 10)
+    0))
 
 -- a letter of a digit in upper case, any other character as it is
 unfoldable pub upperCase : ℕ → ℕ
-upperCase c = cond (isLower c) (c - 0x20) c
+upperCase c = cond (isLowerLetter c) (c - 0x20) c
 
 -- every character passes a test
 unfoldable pub every : (ℕ → Bool) → List ℕ → Bool
@@ -53,6 +58,9 @@ every test (c ∷ t) = test c && every test t
 
 abbrev pub allDigits : List ℕ → Bool
 allDigits t = every isDigit t
+
+abbrev pub allUpper : List ℕ → Bool
+allUpper t = every isUpperDigit t
 
 unfoldable pub byteDigits : ℕ → List ℕ
 byteDigits b = digit (b / 16) ∷ digit (b % 16) ∷ []

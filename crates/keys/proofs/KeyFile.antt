@@ -10,14 +10,14 @@
 --   keyFilePart-of-hash     a file's hash, as a key file of 32 bytes, gives the part that the former rule gave the file
 -- Not here: the composite key (Laws), hexadecimal digits (crate hex, Laws).
 -- Assumes nothing.
-use mathlib.Core.Path.{_≡_, refl, sym, ap, _∙_}
+use mathlib.Core.Path.{_≡_, sym, ap, _∙_}
 use mathlib.Core.Bool.{true, false, cond, and-false}
 use mathlib.Core.List.{List, map}
 use Prim.Native.Nat.{ℕ, _<_}
 use native.Mathlib.Omega.{arith}
 use lib.Dec.{eqb}
 use lib.ListN.{length, getD, length-map}
-use borrow.Author.Tests.{eq-eqb, ne-eqb, eqb-true, eqb-false}
+use borrow.Author.Tests.{eq-eqb, ne-eqb, eqb-true}
 use Rattle.words.specs.Endian.{Bytes}
 use Rattle.words.proofs.Laws.Cases.{by-bool, and-true}
 use Rattle.hex.specs.Rfc4648.{isDigit, upperCase, allDigits, encode, decode}

@@ -3,12 +3,12 @@
 -- In order:
 --   between-true                         what the test of a run of characters tells
 --   value-lt                             a value is below 16
---   value-digit, isWritten-digit         the digit of a value
---   isDigit-isWritten, digit-value       a digit in upper case, and its value
+--   value-digit, isUpperDigit-digit      the digit of a value
+--   isDigit-upper, digit-value           a digit in upper case, and its value
 --   value-upperCase, isDigit-upperCase   both cases of a digit have one value, and both are digits
 -- Assumes nothing.
-use mathlib.Core.Path.{_≡_, sym, ap, _∙_}
-use mathlib.Core.Bool.{Bool, true, false, _||_, or-true}
+use mathlib.Core.Path.{_≡_, ap, _∙_}
+use mathlib.Core.Bool.{true, false, or-true}
 use Prim.Native.Nat.{ℕ, _+_, _-_, _≤_, _<_}
 use native.Mathlib.Omega.{arith}
 use lib.Dec.{leb}
@@ -16,7 +16,7 @@ use lib.Ieee.Bits.{is-true}
 use borrow.Author.Tests.{leb-true, le-leb, lt-ltb, le-ltb}
 use Rattle.words.proofs.Laws.Cases.{by-bool, and-true}
 use Rattle.words.proofs.Laws.Tests.{below-at, same-below}
-use Rattle.hex.specs.Rfc4648.{digit, between, isDecimal, isUpper, isLower, isWritten, isDigit, value, upperCase}
+use Rattle.hex.specs.Rfc4648.{digit, between, isDecimal, isUpperLetter, isLowerLetter, isUpperDigit, isDigit, value, upperCase}
 
 pub between-true : (first last c : ℕ) → between first last c ≡ true → (first ≤ c) × (c ≤ last)
 between-true first last c t =
@@ -31,9 +31,9 @@ unfolding value
 value-lt c =
     by-bool (isDecimal c)
     (λ t. let b = between-true 0x30 0x39 c t in rw t (omega arith))
-    (λ f. by-bool (isUpper c)
+    (λ f. by-bool (isUpperLetter c)
     (λ t. let b = between-true 0x41 0x46 c t in rw (f, t) (omega arith))
-    (λ g. by-bool (isLower c)
+    (λ g. by-bool (isLowerLetter c)
     (λ t. let b = between-true 0x61 0x66 c t in rw (f, g, t) (omega arith))
     (λ t. rw (f, g, t) (omega arith))))
 
@@ -41,36 +41,36 @@ pub value-digit : (n : ℕ) → n < 16 → value (digit n) ≡ n
 unfolding value digit
 value-digit n h = same-below (λ k. value (digit k)) (λ k. k) 16 tt n h
 
-pub isWritten-digit : (n : ℕ) → n < 16 → isWritten (digit n) ≡ true
-unfolding isWritten digit
-isWritten-digit n h = is-true (isWritten (digit n)) (below-at (λ k. isWritten (digit k)) 16 tt n h)
+pub isUpperDigit-digit : (n : ℕ) → n < 16 → isUpperDigit (digit n) ≡ true
+unfolding isUpperDigit digit
+isUpperDigit-digit n h = is-true (isUpperDigit (digit n)) (below-at (λ k. isUpperDigit (digit k)) 16 tt n h)
 
-pub isDigit-isWritten : (c : ℕ) → isWritten c ≡ true → isDigit c ≡ true
-unfolding isWritten isDigit
-isDigit-isWritten c w = rw w
+pub isDigit-upper : (c : ℕ) → isUpperDigit c ≡ true → isDigit c ≡ true
+unfolding isUpperDigit isDigit
+isDigit-upper c w = rw w
 
-pub digit-value : (c : ℕ) → isWritten c ≡ true → digit (value c) ≡ c
-unfolding isWritten value digit
+pub digit-value : (c : ℕ) → isUpperDigit c ≡ true → digit (value c) ≡ c
+unfolding isUpperDigit value digit
 digit-value c w =
     by-bool (isDecimal c)
     (λ t. let b = between-true 0x30 0x39 c t in rw t (rw (lt-ltb (c - 0x30) 10 (omega arith)) (omega arith)))
-    (λ f. let u : isUpper c ≡ true = rw f at w in
+    (λ f. let u : isUpperLetter c ≡ true = rw f at w in
     let b = between-true 0x41 0x46 c u in
     rw (f, u) (rw (le-ltb (c - 0x41 + 10) 10 (omega arith)) (omega arith)))
 
 -- a digit's letter in upper case is a digit of the same value
-upperCase-lower : (c : ℕ) → isLower c ≡ true → upperCase c ≡ c - 0x20
+upperCase-lower : (c : ℕ) → isLowerLetter c ≡ true → upperCase c ≡ c - 0x20
 unfolding upperCase
 upperCase-lower c t = rw t
 
-upperCase-other : (c : ℕ) → isLower c ≡ false → upperCase c ≡ c
+upperCase-other : (c : ℕ) → isLowerLetter c ≡ false → upperCase c ≡ c
 unfolding upperCase
 upperCase-other c f = rw f
 
 pub value-upperCase : (c : ℕ) → value (upperCase c) ≡ value c
 unfolding value upperCase
 value-upperCase c =
-    by-bool (isLower c)
+    by-bool (isLowerLetter c)
     (λ t. let b = between-true 0x61 0x66 c t in
     same-below (λ k. value (upperCase k)) value 0x67 tt c (omega arith))
     (λ f. ap value (upperCase-other c f))
@@ -78,7 +78,7 @@ value-upperCase c =
 pub isDigit-upperCase : (c : ℕ) → isDigit (upperCase c) ≡ isDigit c
 unfolding isDigit
 isDigit-upperCase c =
-    by-bool (isLower c)
+    by-bool (isLowerLetter c)
     (λ t. let b = between-true 0x61 0x66 c t in
     let u = true-between 0x41 0x46 (c - 0x20) (omega arith) (omega arith) in
     ap isDigit (upperCase-lower c t) ∙ rw (u, t) (simp or-true))

@@ -1,13 +1,13 @@
 -- Digits and bytes of any length.
 --
 -- In order:
---   every-not                 a text that fails a test at one place fails it
+--   every-not                                a text that fails a test at one place fails it
 --   length-encode, length-decode
---   getD-encode-high, -low    a byte's two digits by index
---   getD-decode               two digits' byte by index
---   every-encode, allDigits-encode    what is written is digits, in upper case
---   decode-encode             decoding undoes encoding, of any bytes
---   encode-decode             encoding undoes decoding, of any even number of digits in upper case
+--   getD-encode-high, getD-encode-low        a byte's two digits by index
+--   getD-decode                              two digits' byte by index
+--   allUpper-encode, allDigits-encode        what is written is digits, in upper case
+--   decode-encode                            decoding undoes encoding, of any bytes
+--   encode-decode                            encoding undoes decoding, of any even number of upper-case digits
 --   decode-upperCase, allDigits-upperCase    both cases of a digit are read alike
 -- Not here: one digit (Digits).
 -- Assumes nothing.
@@ -19,8 +19,8 @@ use native.Mathlib.Omega.{arith}
 use lib.ListN.{length, getD}
 use Rattle.words.specs.Endian.{Bytes}
 use Rattle.words.proofs.Laws.Cases.{and-true}
-use Rattle.hex.specs.Rfc4648.{digit, isWritten, isDigit, value, upperCase, every, allDigits, byteDigits, encode, decode}
-use Rattle.hex.proofs.Laws.Digits.{value-lt, value-digit, isWritten-digit, isDigit-isWritten, digit-value, value-upperCase, isDigit-upperCase}
+use Rattle.hex.specs.Rfc4648.{digit, isUpperDigit, isDigit, value, upperCase, every, allDigits, allUpper, byteDigits, encode, decode}
+use Rattle.hex.proofs.Laws.Digits.{value-lt, value-digit, isUpperDigit-digit, isDigit-upper, digit-value, value-upperCase, isDigit-upperCase}
 
 pub every-not : (test : ℕ → Bool) (t : List ℕ) (i : ℕ) → i < length t → test (getD t i 0) ≡ false → every test t ≡ false
 unfolding every
@@ -66,15 +66,15 @@ getD-decode (h ∷ l ∷ t) (suc i) k =
     let d : 2 * suc i + 1 ≡ suc (suc (2 * i + 1)) = omega arith in
     rw (d, e) (getD-decode t i (omega arith))
 
-pub every-encode : (s : List ℕ) → Bytes s → every isWritten (encode s) ≡ true
+pub allUpper-encode : (s : List ℕ) → Bytes s → allUpper (encode s) ≡ true
 unfolding every encode flatMap byteDigits
-every-encode [] p = refl
-every-encode (b ∷ s) p =
+allUpper-encode [] p = refl
+allUpper-encode (b ∷ s) p =
     let k = p 0 in
     rw (
-      isWritten-digit (b / 16) (omega arith),
-      isWritten-digit (b % 16) (omega arith),
-    ) (every-encode s (λ i. p (suc i)))
+      isUpperDigit-digit (b / 16) (omega arith),
+      isUpperDigit-digit (b % 16) (omega arith),
+    ) (allUpper-encode s (λ i. p (suc i)))
 
 every-implies : (p q : ℕ → Bool) → ((c : ℕ) → p c ≡ true → q c ≡ true) → (t : List ℕ) → every p t ≡ true
     → every q t ≡ true
@@ -85,7 +85,7 @@ every-implies p q f (c ∷ t) e =
     rw (f c (b .0), every-implies p q f t (b .1))
 
 pub allDigits-encode : (s : List ℕ) → Bytes s → allDigits (encode s) ≡ true
-allDigits-encode s p = every-implies isWritten isDigit isDigit-isWritten (encode s) (every-encode s p)
+allDigits-encode s p = every-implies isUpperDigit isDigit isDigit-upper (encode s) (allUpper-encode s p)
 
 pub decode-encode : (s : List ℕ) → Bytes s → decode (encode s) ≡ s
 unfolding decode encode flatMap byteDigits
@@ -96,13 +96,13 @@ decode-encode (b ∷ s) p =
     (rw (value-digit (b / 16) (omega arith), value-digit (b % 16) (omega arith)) (omega arith))
     (decode-encode s (λ i. p (suc i)))
 
-pub encode-decode : (t : List ℕ) → length t % 2 ≡ 0 → every isWritten t ≡ true → encode (decode t) ≡ t
+pub encode-decode : (t : List ℕ) → length t % 2 ≡ 0 → allUpper t ≡ true → encode (decode t) ≡ t
 unfolding every decode encode flatMap byteDigits
 encode-decode [] e w = refl
 encode-decode (h ∷ []) e w = absurd (omega arith)
 encode-decode (h ∷ l ∷ t) e w =
-    let a = and-true (isWritten h) (isWritten l && every isWritten t) w in
-    let b = and-true (isWritten l) (every isWritten t) (a .1) in
+    let a = and-true (isUpperDigit h) (isUpperDigit l && every isUpperDigit t) w in
+    let b = and-true (isUpperDigit l) (every isUpperDigit t) (a .1) in
     let k = value-lt l in
     let q : (16 * value h + value l) / 16 ≡ value h = omega arith in
     let r : (16 * value h + value l) % 16 ≡ value l = omega arith in
