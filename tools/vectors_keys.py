@@ -13,6 +13,7 @@ import pathlib
 import sys
 
 from digests import sha256, sha512
+from key_files import DIGITS, key_file_part
 from messages import pattern
 from vaults import text_field, vaults
 
@@ -32,7 +33,7 @@ def composed(password, key_file, pre_hash):
     if password is not None:
         parts.append(sha256(password))
     if key_file is not None:
-        parts.append(key_file if len(key_file) == 32 else sha256(key_file))
+        parts.append(key_file_part(key_file))
     return (0, sha256(*parts)) if parts else (WRONG_CREDENTIAL, bytes(32))
 
 
@@ -72,6 +73,9 @@ def credentials(rows):
     m = pattern(64)
     for n in (0, 31, 32, 33, 64):
         rows.composite(f"key-file-{n}", None, m[:n])
+    for form, key_file in DIGITS.items():
+        rows.composite(form, None, key_file)
+        rows.composite(form, b"password", key_file)
     rows.composite("none")
     rows.composite("none-but-bytes")
     rows.composite("empty-password", b"")

@@ -49,6 +49,9 @@ pub fn kinds() {
     let mut m = [0u8; 64];
     vectors::pattern(&mut m);
     key_files(&m);
+    digits();
+    digit_counts();
+    one_other();
     passwords(vectors::first(&m, 32));
     pre_hashes(&m);
     pre_hashes_with(vectors::first(&m, 32));
@@ -61,6 +64,82 @@ fn key_files(m: &[u8]) {
     composite(b"key-file-32", b"", false, vectors::first(m, 32), true);
     composite(b"key-file-33", b"", false, vectors::first(m, 33), true);
     composite(b"key-file-64", b"", false, m, true);
+}
+
+// A key file alone, and with a password.
+fn key_file(form: &[u8], s: &[u8]) {
+    composite(form, b"", false, s, true);
+    composite(form, b"password", true, s, true);
+}
+
+// Key files of 64 hexadecimal digits, in each case.
+fn digits() {
+    key_file(
+        b"digits-upper",
+        b"00112233445566778899AABBCCDDEEFF0F1E2D3C4B5A69788796A5B4C3D2E1F0",
+    );
+    key_file(
+        b"digits-lower",
+        b"00112233445566778899aabbccddeeff0f1e2d3c4b5a69788796a5b4c3d2e1f0",
+    );
+    key_file(
+        b"digits-mixed",
+        b"00112233445566778899aAbBCcDdeEFf0f1E2d3C4b5A69788796A5b4C3d2E1f0",
+    );
+    key_file(
+        b"digits-decimal",
+        b"0011223344556677889900112233445566778899001122334455667788990011",
+    );
+}
+
+// Other numbers of digits: as many as bytes are taken as they stand, one fewer than are decoded, one more, and a
+// line feed behind.
+fn digit_counts() {
+    key_file(b"digits-32", b"00112233445566778899aabbccddeeff");
+    key_file(
+        b"digits-63",
+        b"00112233445566778899aabbccddeeff0f1e2d3c4b5a69788796a5b4c3d2e1f",
+    );
+    key_file(
+        b"digits-65",
+        b"00112233445566778899aabbccddeeff0f1e2d3c4b5a69788796a5b4c3d2e1f00",
+    );
+    key_file(
+        b"digits-64-line-feed",
+        b"00112233445566778899aabbccddeeff0f1e2d3c4b5a69788796a5b4c3d2e1f0\n",
+    );
+    key_file(
+        b"digits-63-line-feed",
+        b"00112233445566778899aabbccddeeff0f1e2d3c4b5a69788796a5b4c3d2e1f\n",
+    );
+}
+
+// 64 bytes of which one is no digit: the first, the last, and one between, each a neighbour of the digits in ASCII.
+fn one_other() {
+    key_file(
+        b"first-slash",
+        b"/0112233445566778899aabbccddeeff0f1e2d3c4b5a69788796a5b4c3d2e1f0",
+    );
+    key_file(
+        b"first-G",
+        b"G0112233445566778899aabbccddeeff0f1e2d3c4b5a69788796a5b4c3d2e1f0",
+    );
+    key_file(
+        b"middle-at",
+        b"00112233445566778899aabbccddeeff@f1e2d3c4b5a69788796a5b4c3d2e1f0",
+    );
+    key_file(
+        b"middle-g",
+        b"00112233445566778899aabbccddeeffgf1e2d3c4b5a69788796a5b4c3d2e1f0",
+    );
+    key_file(
+        b"last-colon",
+        b"00112233445566778899aabbccddeeff0f1e2d3c4b5a69788796a5b4c3d2e1f:",
+    );
+    key_file(
+        b"last-grave",
+        b"00112233445566778899aabbccddeeff0f1e2d3c4b5a69788796a5b4c3d2e1f`",
+    );
 }
 
 // No credential, an empty password, and bytes of a credential that is not given.
