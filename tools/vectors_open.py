@@ -2,8 +2,8 @@
 """Write what crates/open and crates/vectors_open are run on and must print:   tools/vectors_open.py FIXTURES
 
 FIXTURES is the folder of vaults that other programs wrote, with its manifest.json and keys/: who does not have it
-cannot run this script, and needs only the files that it writes. The other vaults are crates/open/data/bench.kdbx, which
-tools/sample.py made, damaged copies of it, and two that are made here. Numbers, documents and hashes come from the
+cannot run this script, and needs only the files that it writes. The other vaults are bench.kdbx and hex-key.kdbx of
+crates/open/data, which tools/sample.py made, damaged copies of the first, and three that are made here. Numbers, documents and hashes come from the
 openers of vectors_vault.py, with T by the AES and the Argon2 of the package cryptography, which is OpenSSL; the
 documents of the vaults in FIXTURES are compared with the manifest's hashes. The number expected of each case is told
 beside it, by hand.
@@ -18,13 +18,14 @@ from cryptography.hazmat.primitives.kdf.argon2 import Argon2d, Argon2id
 from header_model import (
     AES_KDF, ARGON2D, ARGON2ID, CHACHA20, SIGNATURES, Refused, int32, need, read_header, sound_items
 )
+from key_files import key_file_part
 from sample import PASSWORD, transformed
 from vaults import text_field
 from digests import must, sha256
-from vectors_vault import AES, Keys, blocks, flipped, front, header, open_whole, text_of
+from vectors_vault import AES, Keys, blocks, field, flipped, front, header, number, open_whole, text_of
 
 ROOT = pathlib.Path(__file__).parent.parent
-BENCH = ROOT / "crates" / "open" / "data" / "bench.kdbx"
+DATA = ROOT / "crates" / "open" / "data"
 PROGRAM_LIMIT = 65_536
 FILE_LIMIT = 4_194_304
 # The refusals that have a sentence, and the words of memory that crates/vectors_open lends.
@@ -43,7 +44,7 @@ def sentences():
 def composite(password, key_file):
     parts = [] if password is None else [sha256(password)]
     if key_file is not None:
-        parts.append(key_file if len(key_file) == 32 else sha256(key_file))
+        parts.append(key_file_part(key_file))
     need(parts, 18)
     return sha256(*parts)
 
@@ -130,7 +131,7 @@ def others(cases, folder):
 
 def bench(cases):
     """The sample vault, opened; with other credentials; damaged."""
-    f, password = BENCH.read_bytes(), PASSWORD.encode()
+    f, password = (DATA / "bench.kdbx").read_bytes(), PASSWORD.encode()
     _, frames = read_header(f, FILE_LIMIT)
     n = len(b"".join(frames))
     document = cases.case("bench", 0, f, password)
@@ -152,6 +153,35 @@ def bench(cases):
     return document
 
 
+def hex_key(cases):
+    """The vault whose key file is 64 hexadecimal digits, of either case; with other key files; and without a password."""
+    f, key_file, password = (DATA / "hex-key.kdbx").read_bytes(), hex_key_file(), PASSWORD.encode()
+    cases.case("hex_key", 0, f, password, key_file)
+    for name, expected, other in (
+        ("upper", 0, key_file.upper()), ("lower", 0, key_file.lower()), ("decoded", 0, key_file_part(key_file)),
+        ("hash", 13, sha256(key_file)), ("line_feed", 13, key_file + b"\n"), ("cut", 13, key_file[:63]),
+        ("one_other", 13, key_file[:63] + b"g"), ("shifted", 13, key_file[1:] + key_file[:1]),
+    ):
+        cases.case(f"hex_key_{name}", expected, f, password, other, file="hex_key.kdbx")
+    cases.case("hex_key_alone", 13, f, None, key_file, file="hex_key.kdbx")
+
+
+def hex_key_file():
+    return (DATA / "hex-key.key").read_bytes()
+
+
+def former_rule(cases):
+    """A vault that was saved with that key file under document 01's rule, which hashed it: the file's hash opens it."""
+    key_file, seed = hex_key_file(), bytes(32)
+    t = transformed(sha256(sha256(b"a"), sha256(key_file)), b"\x33" * 32, 1)
+    c = Keys(CHACHA20, bytes(12), seed, t)
+    payload = field(1, number(3, 4)) + field(2, bytes(64)) + field(0, b"") + b"<KeePassFile/>"
+    f = front(c, header(c, f4=seed)) + blocks(c, text_of(c, payload), [16_384])
+    cases.case("former_rule", 13, f, b"a", key_file)
+    for name, other in (("hash", sha256(key_file)), ("hash_typed", sha256(key_file).hex().encode())):
+        cases.case(f"former_rule_{name}", 0, f, b"a", other, file="former_rule.kdbx")
+
+
 def made(cases):
     """Vaults that are tagged rightly and end wrongly, of one round."""
     t = transformed(composite(b"a", None), b"\x33" * 32, 1)
@@ -166,6 +196,8 @@ def main(folder):
     cases = Cases(crate / "data")
     others(cases, folder)
     document = bench(cases)
+    hex_key(cases)
+    former_rule(cases)
     made(cases)
     (crate / "stdin").write_text("".join(f"{line}\n" for line in cases.table))
     (crate / "stdout").write_text("".join(f"{line}\n" for line in cases.rows + list(cases.lines.values())))
