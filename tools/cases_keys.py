@@ -9,6 +9,7 @@ import hmac
 from case_list import LARGE
 from digests import must, sha256, sha512
 from cryptography.hazmat.primitives.ciphers import Cipher, algorithms, modes
+from key_files import DIGITS, key_file_part
 from messages import pattern
 from vectors_writer import le
 
@@ -27,6 +28,12 @@ def credentials(cases, entries):
     for n in (31, 33):
         cases.add("composite", f"key file of {n}", {"key": sha256(sha256(pattern(n)))}, keyfile=pattern(n))
         cases.add("composite", f"pre-hash of {n}", 18, prehash=pattern(n))
+    for form, key_file in DIGITS.items():
+        part = key_file_part(key_file)
+        cases.add("composite", f"key file {form}", {"key": sha256(part)}, keyfile=key_file)
+        key_of_both = {"key": sha256(sha256(b"a"), part)}
+        cases.add("composite", f"key file {form} and password", key_of_both, keyfile=key_file, password=b"a")
+    cases.add("composite", "pre-hash of 64 digits", 18, prehash=DIGITS["digits-lower"])
     cases.add("composite", "none", 18)
     cases.add("composite", "empty pre-hash", 18, prehash=b"")
     cases.add("composite", "pre-hash and empty password", 18, prehash=key, password=b"")
