@@ -211,6 +211,19 @@ def check_argon2(tally):
         tally.same("%s as written" % kind, found, right)
 
 
+def check_key_file(tally):
+    """Item 2's readings in numbers: what is decoded, what stands, what is hashed."""
+    key = bytes(range(0x5A, 0x7A))
+    digits = key.hex().encode()
+    for label, key_file, part in (
+        ("64 digits", digits, key), ("64 digits in upper case", digits.upper(), key), ("32 bytes", key, key),
+        ("32 digits", digits[:32], digits[:32]), ("64 digits and a line feed", digits + b"\n", sha256(digits + b"\n")),
+        ("63 digits", digits[:63], sha256(digits[:63])), ("64 bytes", digits[:63] + b"g", sha256(digits[:63] + b"g")),
+        ("the old rule's hash", sha256(digits), sha256(digits)),
+    ):
+        tally.same("key file: " + label, keys.key_file_part(key_file), part)
+
+
 def check_listing(tally):
     """The worked listing, and the R lines."""
     data = written(outer.CHACHA20, 5)
@@ -236,6 +249,7 @@ def check_model(fixtures):
     check_handed_over(tally)
     check_refusals(tally)
     check_argon2(tally)
+    check_key_file(tally)
     check_listing(tally)
     check_agreement(tally)
     check_fixtures(tally, fixtures)

@@ -1,4 +1,5 @@
-"""The few large requests: at each limit of document 01 and of Item 6, and one past it."""
+"""The few large requests: at each limit of document 01 and of Item 6, and one past it. With them the small ones at the
+lengths of Item 2."""
 
 from model import vault as opening
 from model.limits import FILE_LIMIT, MESSAGE_LIMIT, PROGRAM_LIMIT
@@ -120,6 +121,12 @@ def composite_of(**lengths):
     return lambda rng: {"op": "composite", **{name: rng.randbytes(length).hex() for name, length in lengths.items()}}
 
 
+def digits_of(length, behind=b""):
+    """A key file of so many hexadecimal digits of both cases, with these bytes behind them."""
+    digits = b"0123456789abcdefABCDEF" * (length // 22 + 1)
+    return lambda rng: {"op": "composite", "keyfile": (digits[:length] + behind).hex()}
+
+
 def hash_of(alg, *parts):
     """Feeds of so many zeros; bytes stand as they are."""
     made = [part.hex() if isinstance(part, bytes) else {"zeros": part} for part in parts]
@@ -211,6 +218,13 @@ BORDERS = (
     composite_of(prehash=FILE_LIMIT + 1),
     composite_of(password=FILE_LIMIT + 1, prehash=32),
     composite_of(password=FILE_LIMIT, prehash=32),
+    digits_of(32),
+    digits_of(63),
+    digits_of(64),
+    digits_of(64, b"\n"),
+    digits_of(65),
+    digits_of(FILE_LIMIT),
+    digits_of(FILE_LIMIT + 1),
     hash_of("sha256", MESSAGE_LIMIT, b""),
     hash_of("sha512", MESSAGE_LIMIT, b""),
     hash_of("sha256", MESSAGE_LIMIT + 1, b"abc"),

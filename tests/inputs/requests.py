@@ -20,6 +20,15 @@ from .shapes import (
 LARGE = 2**40  # a lent length past memory: large enough
 LARGEST = 2**64 - 1
 
+DIGITS = b"0123456789abcdefABCDEF"  # the hexadecimal ones
+CASES = (b"0123456789abcdef", b"0123456789ABCDEF", DIGITS, b"0123456789")  # the last has no letters
+BESIDE_DIGITS = b"/:@G`g"  # right before and right behind the ranges of digits
+TAKEN_ELSEWHERE = b" \t\n\r_+-xX\x00"  # what some readers of numbers skip or take
+# What editors and programs put in front of digits and behind them.
+AROUND_DIGITS = 3 * ((b"", b"\n"), (b"", b"\r"), (b"", b"\r\n")) + (
+    (b"", b" "), (b"", b"\x00"), (b"\n", b""), (b"0x", b""), (b"\xef\xbb\xbf", b""),
+)
+
 
 # ----- the outer header and dictionaries
 
@@ -76,17 +85,84 @@ def request_lookup(rng):
 # ----- keys and primitives
 
 
+def digits(rng, length):
+    """So many hexadecimal digits: lower case, upper case, mixed, or without letters."""
+    return bytes(rng.choices(rng.choice(CASES), k=length))
+
+
+def no_digit(rng):
+    """A byte that is no digit: beside the digits, a digit with one bit changed, one that other readers take, or any."""
+    made = DIGITS[0]
+    while made in DIGITS:
+        beside, one_bit = rng.choice(BESIDE_DIGITS), rng.choice(DIGITS) ^ rng.choice((0x10, 0x20, 0x20, 0x40, 0x80))
+        made = rng.choice(3 * (beside,) + 2 * (one_bit,) + (rng.choice(TAKEN_ELSEWHERE), rng.randrange(256)))
+    return made
+
+
+def key_file_digits(rng):
+    return digits(rng, 64)
+
+
+def key_file_few_digits(rng):
+    """As long as a file that is taken as it stands."""
+    return digits(rng, 32)
+
+
+def key_file_other_count(rng):
+    return digits(rng, rng.choice((62, 62, 63, 63, 65, 65, 66, 66, 128, rng.randrange(130))))
+
+
+def key_file_around(rng):
+    """Digits with other bytes in front or behind: 64 digits, or 64 bytes in all."""
+    front, behind = rng.choice(AROUND_DIGITS)
+    count = rng.choice((64, 64 - len(front + behind)))
+    return front + digits(rng, count) + behind
+
+
+def key_file_spoiled(rng):
+    """64 bytes of which one is no digit: the first, the last, or one between."""
+    made = bytearray(digits(rng, 64))
+    made[rng.choice((0, 63, rng.randrange(1, 63)))] = no_digit(rng)
+    return bytes(made)
+
+
+def key_file_no_digits(rng):
+    """64 bytes, none of them a digit."""
+    return bytes(no_digit(rng) for _ in range(64))
+
+
+KEY_FILE = (
+    6 * (key_file_spoiled,) + 3 * (key_file_digits, key_file_around, key_file_other_count)
+    + (key_file_few_digits, key_file_no_digits)
+)
+
+
 def credential(rng):
-    """A credential with a length around those that matter."""
-    return rng.randbytes(rng.choice((0, 1, 31, 32, 33, 64, rng.randrange(100)))).hex()
+    """A credential with a length around those that matter; some are 64 digits."""
+    if rng.random() < 0.15:
+        return digits(rng, 64)
+    return rng.randbytes(rng.choice((0, 1, 31, 32, 33, 64, rng.randrange(100))))
+
+
+def credentials(rng):
+    """Each credential or none of it. A pre-hash is often of the right length, or written as digits."""
+    names = [name for name in ("password", "keyfile", "prehash") if rng.random() < 0.5]
+    made = {name: credential(rng) for name in names}
+    if "prehash" in made:
+        right = rng.randbytes(32)
+        made["prehash"] = rng.choice((right, right, digits(rng, 64), made["prehash"]))
+    return made
 
 
 def request_composite(rng):
-    names = [name for name in ("password", "keyfile", "prehash") if rng.random() < 0.5]
-    made = {name: credential(rng) for name in names}
-    if "prehash" in made and rng.random() < 0.5:
-        made["prehash"] = rng.randbytes(32).hex()
-    return made
+    """Most are a key file, because it has the most rules; half of these have a password too."""
+    if rng.random() < 0.6:
+        made = {"keyfile": rng.choice(KEY_FILE)(rng)}
+        if rng.random() < 0.5:
+            made["password"] = credential(rng)
+    else:
+        made = credentials(rng)
+    return {name: part.hex() for name, part in made.items()}
 
 
 def request_rounds(rng):

@@ -1,4 +1,4 @@
-"""Keys (document 01, "Keys"; document 02, Item 6)."""
+"""Keys (document 01, "Keys"; document 02, Items 2 and 6)."""
 
 from . import primitives
 from .dictionary import argon2_within
@@ -8,6 +8,36 @@ from .limits import (
 from .primitives import aes_blocks, hmac_sha256, sha256, sha512
 
 HEADER_NUMBER = 2**64 - 1
+
+# Item 2: "64 hexadecimal digits", "either case". R: "each one of 0-9, a-f, A-F, mixed cases too".
+DIGIT_VALUE = {
+    **dict(zip(b"0123456789", range(0, 10))),
+    **dict(zip(b"abcdef", range(10, 16))),
+    **dict(zip(b"ABCDEF", range(10, 16))),
+}
+
+
+def all_digits(data):
+    """Whether each byte is a hexadecimal digit."""
+    return all(octet in DIGIT_VALUE for octet in data)
+
+
+def decoded(digits):
+    """The bytes that the digits write, in their order, two digits a byte, the higher one first."""
+    values = [DIGIT_VALUE[octet] for octet in digits]
+    return bytes(16 * high + low for high, low in zip(values[0::2], values[1::2]))
+
+
+def key_file_part(key_file):
+    """Item 2, in place of document 01's rule: "32 bytes as they stand, 64 digits decoded, all else hashed"."""
+    # R: "A 32-byte file of digits stays as it stands."
+    if len(key_file) == 32:
+        return key_file
+    # "KeePass 2 decodes a file of exactly 64 digits, either case, to 32 bytes". R: "Exactly 64 bytes"; "A 65th byte (a
+    # line feed, as editors add) makes it a file that is hashed".
+    if len(key_file) == 64 and all_digits(key_file):
+        return decoded(key_file)
+    return sha256(key_file)
 
 
 def composite(password, key_file, pre_hash):
@@ -24,8 +54,7 @@ def composite(password, key_file, pre_hash):
         # "Password gives SHA-256 of its bytes"; "an empty password is a part".
         parts.append(sha256(password))
     if key_file is not None:
-        # "A key file of 32 bytes is taken as it stands; of any other length it is hashed with SHA-256".
-        parts.append(key_file if len(key_file) == 32 else sha256(key_file))
+        parts.append(key_file_part(key_file))
     require(parts, CREDENTIAL)
     # "The composite key is SHA-256 of the parts given, password first."
     return sha256(*parts)
