@@ -1,5 +1,5 @@
-"""Comparing vaults, for tests/interop: what the library reads from a file or writes into one, and what KeePassXC and
-File::KDBX read from the same file. Each check answers figures of the vault, or raises what differs.
+"""Comparing vaults, for tests/interop: what the library reads from a file or writes into one, and what KeePassXC,
+File::KDBX and pykeepass read from the same file. Each check answers figures of the vault, or raises what differs.
 """
 import dataclasses
 import xml.etree.ElementTree as ElementTree
@@ -55,6 +55,15 @@ def agree_file_kdbx(path, credentials, payload, custom, found):
     same("File::KDBX: an attachment", [content.hex() for content in payload.attachments], said["attachments"])
     same("File::KDBX: the custom dictionary", dictionaries.as_read(custom), said["custom"])
     same("File::KDBX: an entry", sorted(map(comparable, found)), sorted(map(comparable, said["entries"])))
+
+
+def agree_pykeepass(path, credentials, payload, tree):
+    """pykeepass reads this uncovered document, and the attachments of this payload."""
+    said = peers.pykeepass("read", path, credentials)
+    theirs = ElementTree.fromstring(bytes.fromhex(said["document"]))
+    if fault := documents.difference(documents.canonical(tree), documents.canonical(theirs)):
+        raise Failed(f"pykeepass: {fault}")
+    same("pykeepass: an attachment", [content.hex() for content in payload.attachments], said["attachments"])
 
 
 def refuses(program, ask, *arguments):

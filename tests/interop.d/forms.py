@@ -1,5 +1,5 @@
-"""Vaults made on the spot, for tests/interop: which there are, and how File::KDBX, KeePassXC and the library make
-them.
+"""Vaults made on the spot, for tests/interop: which there are, and how File::KDBX, KeePassXC, pykeepass and the library
+make them.
 """
 import dataclasses
 import itertools
@@ -117,6 +117,14 @@ def make_keepassxc(path, form, credentials):
         change("mv", "/Entry 1", "/XC gröup")
 
 
+def make_pykeepass(path, form, credentials):
+    """A vault that pykeepass writes: one of File::KDBX, to which it gives credentials and an entry."""
+    make_file_kdbx(path, form, BASE)
+    entry = {"title": "Py entry", "username": "py user", "password": f"py-secret-€-{form.name}", "notes": "nöte"}
+    entry |= {"url": "https://example.org/py", "attachments": {"content.bin": form.bytes_of("content", 2560)}}
+    peers.pykeepass("make", path, credentials, before=BASE.password, entry=entry)
+
+
 def make_by_db_create(path, form, credentials):
     """A new vault of KeePassXC's command line, which is of KDBX 3.1."""
     path.unlink(missing_ok=True)
@@ -169,12 +177,16 @@ def payload_of(driver, form, filling):
     return payload
 
 
+def header_of(form):
+    """What the library is asked to write into a header, but for the custom dictionary."""
+    kdf = form.kdf | {"S": form.bytes_of("kdf seed", form.kdf.get("salt", 32)).hex()}
+    seed, nonce = form.bytes_of("seed", 32), form.bytes_of("nonce", NONCE_SIZE[form.cipher])
+    return {"minor": form.minor, "cipher": form.cipher, "seed": seed, "nonce": nonce, "kdf": kdf}
+
+
 def write_made(driver, path, form):
     payload, due = payload_of(driver, form, None), PAYLOADS[form.turn % 5]
     if due is not None:
         payload = payload_of(driver, form, due - len(payload_of(driver, form, 0).whole))
         exchange.same("the payload's length", len(payload.whole), due)
-    kdf = form.kdf | {"S": form.bytes_of("kdf seed", form.kdf.get("salt", 32)).hex()}
-    seed, nonce = form.bytes_of("seed", 32), form.bytes_of("nonce", NONCE_SIZE[form.cipher])
-    asked = {"minor": form.minor, "cipher": form.cipher, "seed": seed, "nonce": nonce, "kdf": kdf}
-    return exchange.write(driver, path, form.credentials, asked | {"custom": custom_of(form)}, payload)
+    return exchange.write(driver, path, form.credentials, header_of(form) | {"custom": custom_of(form)}, payload)

@@ -1,12 +1,15 @@
-"""The other programs of tests/interop: KeePassXC by keepassxc-cli, and File::KDBX by file_kdbx.pl.
+"""The other programs of tests/interop: KeePassXC by keepassxc-cli, File::KDBX by file_kdbx.pl, and pykeepass by
+py_keepass.py, where it can be had.
 
 KeePassXC 2.7.4's command line makes new vaults of KDBX 3.1 alone, but it keeps a vault's cipher, KDF with its figures
 (Argon2's memory in whole KiB), custom dictionary and lack of compression when it saves it: what it changes is written
 by it. It writes 4.1 where the document needs that, as an entry that was moved does, and else 4.0. It takes a salt of
 Argon2 of 8 to 32 bytes. File::KDBX 0.906 refuses any dictionary with an empty value, and asks Argon2 for as many bytes
-as the salt has: of vaults with Argon2 it opens those with a salt of 32 bytes alone.
+as the salt has: of vaults with Argon2 it opens those with a salt of 32 bytes alone. pykeepass 4.0.3 keeps the header of
+a vault, seeds included, when it saves it. What each makes of key files is in key_files.py.
 """
 import dataclasses
+import functools
 import json
 import os
 import pathlib
@@ -15,6 +18,7 @@ import subprocess
 import sys
 
 PERL = pathlib.Path(__file__).resolve().parent / "file_kdbx.pl"
+PYKEEPASS = PERL.with_name("py_keepass.py")
 ENVIRONMENT = os.environ | {"QT_QPA_PLATFORM": "offscreen", "LC_ALL": "C.UTF-8"}
 
 
@@ -29,14 +33,36 @@ class Credentials:
     key_file: pathlib.Path | None
 
 
+def works(*words):
+    return subprocess.run(words, capture_output=True).returncode == 0
+
+
+def python_with_pykeepass():
+    """A python3 that has pykeepass, or None. Debian's package is for Debian's own, which need not be the first."""
+    pythons = [shutil.which("python3", path=folder) for folder in os.get_exec_path()]
+    return next((python for python in pythons if python and works(python, "-c", "import pykeepass")), None)
+
+
+def from_packages(missing):
+    """Install Debian's packages, and answer whether that went well."""
+    commands = ["update", "-q"], ["install", "-y", "-q", *missing]
+    return all(subprocess.run(["apt-get", *words], stdout=sys.stderr).returncode == 0 for words in commands)
+
+
 def install():
-    """From Debian's packages, with apt-get (so as root), what is missing."""
+    """From Debian's packages, with apt-get (so as root), what is missing: pykeepass where that can be done."""
     missing = [] if shutil.which("keepassxc-cli") else ["keepassxc"]
-    if subprocess.run(["perl", "-MFile::KDBX", "-e1"], capture_output=True).returncode != 0:
-        missing.append("libfile-kdbx-perl")
-    if missing:
-        subprocess.run(["apt-get", "update", "-q"], check=True, stdout=sys.stderr)
-        subprocess.run(["apt-get", "install", "-y", "-q", *missing], check=True, stdout=sys.stderr)
+    missing += [] if works("perl", "-MFile::KDBX", "-e1") else ["libfile-kdbx-perl"]
+    if missing and not from_packages(missing):
+        raise SystemExit(f"not installed: {', '.join(missing)}")
+    if python_with_pykeepass() is None and shutil.which("apt-get"):
+        from_packages(["python3-pykeepass"])
+
+
+@functools.cache
+def pykeepass_python():
+    """The python3 that has pykeepass, asked for once it is installed where it can be."""
+    return python_with_pykeepass()
 
 
 def versions():
@@ -44,7 +70,11 @@ def versions():
         return subprocess.run(words, capture_output=True, text=True, check=True).stdout.strip()
 
     perl = said("perl", "-MFile::KDBX", "-e", "print File::KDBX->VERSION")
-    return f"KeePassXC {said('keepassxc-cli', '--version')}, File::KDBX {perl}"
+    found = f"KeePassXC {said('keepassxc-cli', '--version')}, File::KDBX {perl}"
+    if pykeepass_python() is None:
+        return f"{found}\npykeepass is not installed: its rows are left out"
+    python = said(pykeepass_python(), "-c", "import pykeepass; print(pykeepass.__version__)")
+    return f"{found}, pykeepass {python}"
 
 
 def run(words, given):
@@ -101,8 +131,18 @@ def hexadecimal(value):
     return value.hex() if isinstance(value, bytes) else value
 
 
-def perl(mode, path, credentials, **asked):
-    """What file_kdbx.pl answers."""
+def by_json(words, path, credentials, asked):
+    """What a script answers to a request about a vault."""
     password = None if credentials.password is None else credentials.password.encode()
     asked |= {"path": str(path), "password": password, "key_file": credentials.key_file and str(credentials.key_file)}
-    return json.loads(run(["perl", PERL, mode], json.dumps(asked, default=hexadecimal).encode()))
+    return json.loads(run(words, json.dumps(asked, default=hexadecimal).encode()))
+
+
+def perl(mode, path, credentials, **asked):
+    """What file_kdbx.pl answers."""
+    return by_json(["perl", PERL, mode], path, credentials, asked)
+
+
+def pykeepass(mode, path, credentials, **asked):
+    """What py_keepass.py answers."""
+    return by_json([pykeepass_python(), PYKEEPASS, mode], path, credentials, asked)
