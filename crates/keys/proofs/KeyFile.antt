@@ -8,23 +8,26 @@
 --   formerPart              document 01's rule, which Item 2 supersedes
 --   keyFilePart-former      no other file's part changed
 --   keyFilePart-of-hash     a file's hash, as a key file of 32 bytes, gives the part that the former rule gave the file
--- Not here: the composite key (Laws), hexadecimal digits (crate hex, Laws).
+--   composite-of-hash       .. and with the same password, or none, the composite key that the former rule gave
+-- Not here: the order of refusals (Laws), hexadecimal digits (crate hex, Laws).
 -- Assumes nothing.
 use mathlib.Core.Path.{_≡_, sym, ap, _∙_}
 use mathlib.Core.Bool.{true, false, cond, and-false}
-use mathlib.Core.List.{List, map}
-use Prim.Native.Nat.{ℕ, _<_}
+use mathlib.Core.List.{List, _++_, map}
+use Prim.Native.Nat.{ℕ, _≤_, _<_}
 use native.Mathlib.Omega.{arith}
 use lib.Dec.{eqb}
 use lib.ListN.{length, getD, length-map}
-use borrow.Author.Tests.{eq-eqb, ne-eqb, eqb-true}
+use borrow.Author.Tests.{le-leb, eq-eqb, ne-eqb, eqb-true}
 use Rattle.words.specs.Endian.{Bytes}
 use Rattle.words.proofs.Laws.Cases.{by-bool, and-true}
 use Rattle.hex.specs.Rfc4648.{isDigit, upperCase, allDigits, encode, decode}
 use Rattle.hex.proofs.Laws.Texts.{every-not, length-encode, length-decode, allDigits-encode, decode-encode, decode-upperCase, allDigits-upperCase}
+use Rattle.refusals.specs.Limits.{passwordLimit, keyFileLimit}
 use Rattle.sha2.specs.Fips180.{sha256, hash}
 use Rattle.sha2.proofs.Laws.Lengths.{length-iv256, length-hash}
-use Rattle.keys.specs.Kdbx4Keys.{isHexKey, keyFilePart}
+use Rattle.keys.specs.Kdbx4Keys.{Credential, given, absent, Composed, accepted, over, passwordPart, isHexKey, keyFilePart, compositeOf, composite}
+use Rattle.keys.proofs.Laws.{over-given, composite-within}
 
 length-sha256 : (s : List ℕ) → length (hash sha256 s) ≡ 32
 length-sha256 s = length-hash sha256 s length-iv256
@@ -96,6 +99,28 @@ pub keyFilePart-former : (s : List ℕ) → isHexKey s ≡ false → keyFilePart
 unfolding keyFilePart
 keyFilePart-former s f = rw f
 
--- what to do with a vault that was saved with a file of 64 digits under the former rule
 pub keyFilePart-of-hash : (s : List ℕ) → (length s ≡ 32 → ⊥) → keyFilePart (hash sha256 s) ≡ formerPart s
 keyFilePart-of-hash s n = keyFilePart-32 (hash sha256 s) (length-sha256 s) ∙ rw (ne-eqb (length s) 32 n)
+
+-- the composite key of a password, given or absent, and a key file by the former rule
+abbrev pub formerComposite : Credential → List ℕ → Composed
+formerComposite (given p) f = accepted (hash sha256 (passwordPart p ++ formerPart f))
+formerComposite absent f = accepted (hash sha256 (formerPart f))
+
+compositeOf-of-hash : (p : Credential) (f : List ℕ) → (length f ≡ 32 → ⊥)
+    → compositeOf p (given (hash sha256 f)) absent ≡ formerComposite p f
+unfolding compositeOf
+compositeOf-of-hash (given p) f n =
+    ap (λ (k : List ℕ). accepted (hash sha256 (passwordPart p ++ k))) (keyFilePart-of-hash f n)
+compositeOf-of-hash absent f n = ap (λ (k : List ℕ). accepted (hash sha256 k)) (keyFilePart-of-hash f n)
+
+-- a vault saved with a file of 64 digits under the former rule opens with the file's hash as a key file of 32 bytes
+pub composite-of-hash : (p : Credential) (f : List ℕ) → over passwordLimit p ≡ false → over keyFileLimit (given f) ≡ false
+    → isHexKey f ≡ true → composite p (given (hash sha256 f)) absent ≡ formerComposite p f
+composite-of-hash p f sp sf t =
+    let e = isHexKey-true f t .0 in
+    let l = over-given keyFileLimit f sf in
+    let h = length-sha256 f in
+    let k : length (hash sha256 f) ≤ keyFileLimit = omega arith in
+    let s : over keyFileLimit (given (hash sha256 f)) ≡ false = rw (le-leb (length (hash sha256 f)) keyFileLimit k) in
+    composite-within p (given (hash sha256 f)) absent sp s ∙ compositeOf-of-hash p f (λ q. omega arith)
