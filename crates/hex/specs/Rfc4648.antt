@@ -39,7 +39,7 @@ isUpperDigit c = isDecimal c || isUpperLetter c
 unfoldable pub isDigit : ℕ → Bool
 isDigit c = isDecimal c || isUpperLetter c || isLowerLetter c
 
--- the value of a digit
+-- the value of a digit, and 0 of any other character
 unfoldable pub value : ℕ → ℕ
 value c =
     cond (isDecimal c) (c - 0x30)

@@ -1,10 +1,10 @@
 // Hexadecimal digits (RFC 4648, section 8): bytes written as digits, and digits read as bytes.
 //
-//   00 1F A5    written    001FA5    in upper case, the upper four bits of a byte first
-//   001fA5      read       00 1F A5    in either case
+//   00 1F A5    is written    001FA5      in upper case, the upper four bits of a byte first
+//   001fA5      is read       00 1F A5    in either case
 //
 // The contracts cite specs/Rfc4648. Every function answers every input: bytes are written and read as far as there is
-// room, and a character that is no digit counts as 0. `all_digits` tells whether there is one; it looks at every
+// room, and a character that is no digit counts as 0. `all_digits` tells whether all are digits; it looks at every
 // character, wherever the first one is that is no digit.
 ghost use mathlib.Core.Path.{_≡_};
 ghost use Prim.Native.Nat.{_/_, _<_};
@@ -37,7 +37,7 @@ pub fn is_digit(c: u8) -> bool
     between(b'0', b'9', c) | between(b'A', b'F', c) | between(b'a', b'f', c)
 }
 
-// The value of a digit, in either case.
+// The value of a digit, in either case; 0 of any other character.
 pub fn value(c: u8) -> u8
     ensures { λ r. ⌜ r ≡ rfc4648.value c ⌝ }
 {

@@ -2,7 +2,7 @@
 -- file document 02, Item 2, which supersedes document 01's sentence.
 --
 --   "Password gives SHA-256 of its bytes"                                passwordPart
---   Item 2: "32 bytes as they stand, 64 digits decoded, all else hashed"  keyFilePart
+--   "32 bytes as they stand, 64 digits decoded, all else hashed"         isHexKey, keyFilePart
 --   "The composite key is SHA-256 of the parts given, password first"    parts, compositeOf
 --   "A pre-hash is the composite key itself"                             compositeOf
 --   "Order: lengths (1), then 18"                                        composite
