@@ -1,7 +1,8 @@
 """Cases of keys, hashes and tags.
 
 Hashes and tags are those of FIPS 180-4's and RFC 4231's examples, or of Python's hashlib and hmac; AES is FIPS 197's
-example, or the package cryptography's, which is OpenSSL. Composite and transformed keys of vaults are the manifest's.
+example, or the package cryptography's, which is OpenSSL. Composite and transformed keys of vaults are the manifest's;
+the parts of key files of digits are key_files.py's, by Python's base64.
 """
 import hashlib
 import hmac

@@ -3,10 +3,10 @@
 
 FIXTURES is the folder of vaults that other programs wrote, with its manifest.json and keys/: who does not have it
 cannot run this script, and needs only the files that it writes. The other vaults are bench.kdbx and hex-key.kdbx of
-crates/open/data, which tools/sample.py made, damaged copies of the first, and three that are made here. Numbers, documents and hashes come from the
-openers of vectors_vault.py, with T by the AES and the Argon2 of the package cryptography, which is OpenSSL; the
-documents of the vaults in FIXTURES are compared with the manifest's hashes. The number expected of each case is told
-beside it, by hand.
+crates/open/data, which tools/sample.py made, damaged copies of the first, and three that are made here. Numbers,
+documents and hashes come from the openers of vectors_vault.py, with T by the AES and the Argon2 of the package
+cryptography, which is OpenSSL; the documents of the vaults in FIXTURES are compared with the manifest's hashes. The
+number expected of each case is told beside it, by hand.
 The sentences are the indented lines of docs/REFUSALS.md, so that the gate holds the program to that page.
 """
 import json
