@@ -1,4 +1,5 @@
 -- Document 01, "Numbers of the terminal": the most of each thing, in bytes but for the rounds. A limit is inclusive.
+-- Document 02, Item 1: "1 where the key's length or position plus length passes 4,194,304"          streamLimit
 -- Document 02, Item 6: "S of 8 to 64 bytes, I 1 to 64, M 8,192 to 67,108,864, P 1 to 16, M at least 8,192 times P"
 --                                                                                                      argon2Fits
 -- Not here: the laws that proofs lean on (proofs, Laws.Limits).
@@ -30,6 +31,10 @@ messageLimit = 8_388_608
 -- rounds of the key transformation
 unfoldable pub roundsLimit : ℕ
 roundsLimit = 4_000_000
+
+-- the inner stream (document 02, Item 1): its key, and where a stretch of it ends
+unfoldable pub streamLimit : ℕ
+streamLimit = 4_194_304
 
 -- ciphertext in a block that is written
 unfoldable pub writtenBlock : ℕ

@@ -1,6 +1,7 @@
-// The most that the terminal takes of each thing (document 01, "Numbers of the terminal"), and the bounds of Argon2's
-// figures (document 02, Item 6). A limit is inclusive.
+// The most that the terminal takes of each thing (document 01, "Numbers of the terminal"; document 02, Item 1: the inner
+// stream), and the bounds of Argon2's figures (document 02, Item 6). A limit is inclusive.
 ghost use mathlib.Core.Path.{_≡_};
+ghost use Prim.Native.Nat.{_+_};
 ghost use lib.Dec.{leb};
 ghost use Rattle.refusals.specs.Limits as limits;
 
@@ -16,6 +17,8 @@ pub const KEY_FILE_LIMIT: usize = 4_194_304;
 pub const MESSAGE_LIMIT: usize = 8_388_608;
 // Rounds of the key transformation.
 pub const ROUNDS_LIMIT: u64 = 4_000_000;
+// The inner stream, in bytes: its key, and where a stretch of it ends.
+pub const STREAM_LIMIT: u64 = 4_194_304;
 // Ciphertext in a block that is written, in bytes.
 pub const WRITTEN_BLOCK: usize = 16_384;
 // A PC program's input, in bytes.
@@ -80,6 +83,23 @@ pub fn rounds_fit(n: u64) -> bool
     ensures { λ r. ⌜ r ≡ leb n limits.roundsLimit ⌝ }
 {
     n <= ROUNDS_LIMIT
+}
+
+// Whether the key of an inner stream may have so many bytes.
+pub fn stream_key_fits(n: usize) -> bool
+    ensures { λ r. ⌜ r ≡ leb n limits.streamLimit ⌝ }
+{
+    n as u64 <= STREAM_LIMIT
+}
+
+// Whether an inner stream may have a stretch of n bytes at a position.
+pub fn stretch_fits(position: u64, n: usize) -> bool
+    ensures { λ r. ⌜ r ≡ leb (position + n) limits.streamLimit ⌝ }
+{
+    if STREAM_LIMIT < position {
+        return false;
+    }
+    n as u64 <= STREAM_LIMIT - position
 }
 
 // Whether a PC program's input may have so many bytes.

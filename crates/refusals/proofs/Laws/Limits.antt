@@ -2,8 +2,8 @@
 -- to.
 --
 -- In order:
---   message-file, message-password, message-key-file, message-blocks
---   file-size, payload-size, rounds-word
+--   message-file, message-password, message-key-file, message-stream-key, message-blocks
+--   file-size, payload-size, rounds-word, stream-word, stream-some
 --   block-pieces, block-positive, block-size, block-file
 --   Argon2Bounds, argon2Fits-bounds
 -- Assumes nothing.
@@ -13,7 +13,7 @@ use Prim.Native.Nat.{ℕ, _+_, _*_, _%_, _^_, _≤_, _<_}
 use native.Mathlib.Omega.{arith}
 use borrow.Author.Tests.{leb-true}
 use Rattle.words.proofs.Laws.Cases.{and-true}
-use Rattle.refusals.specs.Limits.{fileLimit, payloadLimit, passwordLimit, keyFileLimit, messageLimit, roundsLimit, writtenBlock, within, argon2Fits}
+use Rattle.refusals.specs.Limits.{fileLimit, payloadLimit, passwordLimit, keyFileLimit, messageLimit, roundsLimit, streamLimit, writtenBlock, within, argon2Fits}
 
 -- a whole file, with a block's number and size before it, is a message
 pub message-file : fileLimit + 12 ≤ messageLimit
@@ -28,6 +28,11 @@ message-password = omega arith
 pub message-key-file : keyFileLimit ≤ messageLimit
 unfolding messageLimit keyFileLimit
 message-key-file = omega arith
+
+-- an inner stream's key is a message
+pub message-stream-key : streamLimit ≤ messageLimit
+unfolding messageLimit streamLimit
+message-stream-key = omega arith
 
 -- some blocks are a message: the keys' own hashes have no more
 pub message-blocks : 512 ≤ messageLimit
@@ -47,6 +52,16 @@ payload-size = omega arith
 pub rounds-word : roundsLimit < 2 ^ 32
 unfolding roundsLimit
 rounds-word = omega arith
+
+-- where a stretch of the inner stream ends is a 64-bit number
+pub stream-word : streamLimit < 2 ^ 64
+unfolding streamLimit
+stream-word = omega arith
+
+-- the stream has some bytes
+pub stream-some : 64 ≤ streamLimit
+unfolding streamLimit
+stream-some = omega arith
 
 -- a written block is some whole pieces of the cipher
 pub block-pieces : writtenBlock % 16 ≡ 0
