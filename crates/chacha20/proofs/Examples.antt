@@ -8,8 +8,9 @@ use mathlib.Core.List.{List, [], _∷_}
 use Prim.Native.Nat.{ℕ}
 use Rattle.words.specs.Endian.{le, leBytes}
 use Rattle.words.specs.Xor.{xors}
+use Rattle.stream.specs.Words.{sum, serialize}
 use Rattle.chacha20.specs.Rfc8439.{half, quarterRound, qround, innerBlock, innerBlocks}
-use Rattle.chacha20.specs.Rfc8439.{initialState, sum, serialize, block, encryptBlocks, encrypt}
+use Rattle.chacha20.specs.Rfc8439.{initialState, block, encryptBlocks, encrypt}
 
 -- 2.1.1
 pub quarterRound-2-1-1 : quarterRound (record { a = 0x11111111; b = 0x01020304; c = 0x9b8d6f43; d = 0x01234567 })

@@ -2,7 +2,7 @@
 --
 --   2.1    the quarter round     Four, half, quarterRound
 --   2.2    on a state's words    qround
---   2.3    the block function    initialState, sum, serialize, block
+--   2.3    the block function    initialState, block; of the crate stream: sum, serialize
 --   2.3.1  in pseudocode         innerBlock, innerBlocks
 --   2.4    encryption            encrypt
 -- A byte is a number below 256, a word one below 2^32, a state a list of 16 words. `blocks` is the block function as
@@ -15,8 +15,9 @@ use Prim.Native.Nat.{ℕ, zero, suc, _+_, _/_, _%_, _^_}
 use lib.Bits.{bitXor}
 use lib.ListN.{length, getD, set, take, drop}
 use Rattle.words.specs.Word.{plus, rotl}
-use Rattle.words.specs.Endian.{le, leBytes}
+use Rattle.words.specs.Endian.{le}
 use Rattle.words.specs.Xor.{xors}
+use Rattle.stream.specs.Words.{sum, serialize}
 
 -- 2.1: the words a, b, c, d
 pub record Four : Type 0 where
@@ -68,17 +69,6 @@ initialState key counter nonce =
     ∷ le 4 key 0 ∷ le 4 key 4 ∷ le 4 key 8 ∷ le 4 key 12
     ∷ le 4 key 16 ∷ le 4 key 20 ∷ le 4 key 24 ∷ le 4 key 28
     ∷ counter % 2 ^ 32 ∷ le 4 nonce 0 ∷ le 4 nonce 4 ∷ le 4 nonce 8 ∷ []
-
--- 2.3: state += initial_state
-unfoldable pub sum : List ℕ → List ℕ → List ℕ
-sum [] ys = []
-sum (x ∷ xs) [] = []
-sum (x ∷ xs) (y ∷ ys) = plus 32 x y ∷ sum xs ys
-
--- 2.3: the words in little-endian order, one after the other
-unfoldable pub serialize : List ℕ → List ℕ
-serialize [] = []
-serialize (w ∷ ws) = leBytes 4 w ++ serialize ws
 
 -- 2.3.1: chacha20_block
 unfoldable pub block : List ℕ → ℕ → List ℕ → List ℕ

@@ -3,15 +3,14 @@
 // The four quarter rounds of a round touch different words, so they are taken in an order that keeps more words in
 // registers than RFC 8439's.
 ghost use mathlib.Core.Path.{_≡_};
-ghost use Prim.Native.Nat.{_+_, _*_, _≤_, _<_};
+ghost use Prim.Native.Nat.{_<_};
 ghost use lib.Bits.{bitXor};
 ghost use lib.ListN.{length};
-ghost use lib.Seq.{sets};
 ghost use Rattle.words.specs.Word as word;
-ghost use Rattle.words.specs.Endian as endian;
 ghost use Rattle.chacha20.specs.Rfc8439 as rfc8439;
 ghost use Rattle.chacha20.specs.State.{four};
-use words::le::u32_of;
+use stream::serialize_sum;
+use words::le::u32_at;
 use words::plus32;
 
 // Four words of a state.
@@ -113,22 +112,6 @@ fn rounds(s: &mut [u32; 16])
     }
 }
 
-// The little-endian word at a place of a key.
-fn key_word(key: [u8; 32], at: usize) -> u32
-    requires { ⌜ at + 4 ≤ 32 ⌝ }
-    ensures { λ r. ⌜ r ≡ endian.le 4 key at ⌝ }
-{
-    u32_of(key[at], key[at + 1], key[at + 2], key[at + 3])
-}
-
-// The little-endian word at a place of a nonce.
-fn nonce_word(nonce: [u8; 12], at: usize) -> u32
-    requires { ⌜ at + 4 ≤ 12 ⌝ }
-    ensures { λ r. ⌜ r ≡ endian.le 4 nonce at ⌝ }
-{
-    u32_of(nonce[at], nonce[at + 1], nonce[at + 2], nonce[at + 3])
-}
-
 // 2.3: the state that a block starts from.
 fn initial_state(key: [u8; 32], counter: u32, nonce: [u8; 12]) -> [u32; 16]
     ensures { λ r. ⌜ r ≡ rfc8439.initialState key counter nonce ⌝ }
@@ -138,43 +121,19 @@ fn initial_state(key: [u8; 32], counter: u32, nonce: [u8; 12]) -> [u32; 16]
         0x3320646e,
         0x79622d32,
         0x6b206574,
-        key_word(key, 0),
-        key_word(key, 4),
-        key_word(key, 8),
-        key_word(key, 12),
-        key_word(key, 16),
-        key_word(key, 20),
-        key_word(key, 24),
-        key_word(key, 28),
+        u32_at(&key, 0),
+        u32_at(&key, 4),
+        u32_at(&key, 8),
+        u32_at(&key, 12),
+        u32_at(&key, 16),
+        u32_at(&key, 20),
+        u32_at(&key, 24),
+        u32_at(&key, 28),
         counter,
-        nonce_word(nonce, 0),
-        nonce_word(nonce, 4),
-        nonce_word(nonce, 8),
+        u32_at(&nonce, 0),
+        u32_at(&nonce, 4),
+        u32_at(&nonce, 8),
     ]
-}
-
-// Writes a word's four bytes at a place.
-fn put_word(out: &mut [u8; 64], at: usize, x: u32)
-    requires { ⌜ at + 4 ≤ 64 ⌝ }
-    ensures { λ _. ⌜ now (out .exit) ≡ sets (now (out .entry)) at (endian.leBytes 4 x) ⌝ }
-{
-    out[at] = (x % 256) as u8;
-    out[at + 1] = (x / 0x100 % 256) as u8;
-    out[at + 2] = (x / 0x1_0000 % 256) as u8;
-    out[at + 3] = (x / 0x100_0000 % 256) as u8;
-}
-
-// 2.3: the sums of two states' words, serialized.
-fn serialize_sum(s: [u32; 16], t: [u32; 16]) -> [u8; 64]
-    ensures { λ r. ⌜ r ≡ rfc8439.serialize (rfc8439.sum s t) ⌝ }
-{
-    let mut out = [0u8; 64];
-    let mut i: usize = 0;
-    while i < 16 {
-        put_word(&mut out, i * 4, plus32(s[i], t[i]));
-        i += 1;
-    }
-    out
 }
 
 // 2.3: the block of a key, a counter and a nonce.

@@ -41,9 +41,9 @@ impl ChaCha20 {
     {
         let mut done: usize = 0;
         while done < out.len() {
-            let p = words::plus64(at, done as u64);
-            let block = block::block(key, (p / 64 % 0x1_0000_0000) as u32, nonce);
-            done += stream::xor_block(&mut out[done..], block, (p % 64) as usize);
+            let counter = stream::counter_at(at, done);
+            let block = block::block(key, (counter % 0x1_0000_0000) as u32, nonce);
+            done += stream::xor_block(&mut out[done..], block, stream::place_at(at, done));
         }
     }
 }

@@ -7,15 +7,14 @@
 --   length-innerBlock, length-innerBlocks      sixteen words stay sixteen
 -- Not here: the block function (Block).
 -- Assumes nothing.
-use mathlib.Core.Path.{_≡_, refl, sym, ap, subst, _∙_}
+use mathlib.Core.Path.{_≡_, refl, ap, _∙_}
 use mathlib.Core.List.{List, [], _∷_}
-use Prim.Native.Nat.{ℕ, zero, suc, _+_, _≤_, _<_}
+use Prim.Native.Nat.{ℕ, zero, suc, _+_}
 use native.Mathlib.Numerals.{add-one}
-use native.Mathlib.Omega.{arith}
 use lib.Bits.{bitXor}
-use lib.ListN.{length, getD, set, drop, length-set, drop-of-length-le}
-use lib.Seq.{drop-cons}
+use lib.ListN.{length, getD, set, length-set}
 use Rattle.words.specs.Word.{plus, rotl}
+use Rattle.stream.proofs.Laws.Words.{same-sixteen}
 use Rattle.chacha20.specs.Rfc8439.{Four, half, quarterRound, qround, innerBlock, innerBlocks}
 
 half-is : (m n : ℕ) (s : Four) {a b c d : ℕ} → a ≡ plus 32 (s .a) (s .b) → d ≡ rotl 32 m (bitXor (s .d) a)
@@ -39,20 +38,6 @@ pub qround-is : (s : List ℕ) (x y z w : ℕ) (q : Four)
 unfolding qround
 qround-is s x y z w q e = rw e
 
--- the elements of a list from i on, n of them
-abbrev listed : ℕ → ℕ → List ℕ → List ℕ
-listed zero i s = []
-listed (suc n) i s = getD s i 0 ∷ listed n (suc i) s
-
-drop-listed : (n i : ℕ) (s : List ℕ) → length s ≡ i + n → drop i s ≡ listed n i s
-drop-listed zero i s e =
-    let h : length s ≤ i = omega arith in
-    drop-of-length-le s h
-drop-listed (suc n) i s e =
-    let h : i < length s = omega arith in
-    let k : length s ≡ suc i + n = omega arith in
-    drop-cons s i 0 h ∙ ap (λ (l : List ℕ). getD s i 0 ∷ l) (drop-listed n (suc i) s k)
-
 -- an inner block, its quarter rounds in the code's order
 abbrev reordered : List ℕ → List ℕ
 reordered s₀ =
@@ -73,9 +58,7 @@ unfolding qround innerBlock
 reordered-same a b c d e f g h i j k l m n o p = refl
 
 reordered-is : (s : List ℕ) → length s ≡ 16 → reordered s ≡ innerBlock s
-reordered-is s e =
-    subst (λ (l : List ℕ). reordered l ≡ innerBlock l) (sym (drop-listed 16 0 s e))
-    (reordered-same _ _ _ _ _ _ _ _ _ _ _ _ _ _ _ _)
+reordered-is s e = same-sixteen reordered innerBlock reordered-same s e
 
 pub innerBlock-is : (s₀ : List ℕ) {s₁ s₂ s₃ s₄ s₅ s₆ s₇ s₈ : List ℕ} → length s₀ ≡ 16
     → s₁ ≡ qround s₀ 0 4 8 12 → s₂ ≡ qround s₁ 3 7 11 15 → s₃ ≡ qround s₂ 1 5 9 13 → s₄ ≡ qround s₃ 2 6 10 14

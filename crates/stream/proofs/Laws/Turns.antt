@@ -1,12 +1,13 @@
 -- A loop that applies a block a turn, from any position on.
 --
 -- In order:
---   length-xors-min                     as long as the shorter
---   xors-more, xors-all                 a block applied byte by byte
---   apply-none, apply-turn, apply-all   a stream applied block by block
---   turn-le, turn-lt, length-applied    how far a turn comes, and the length kept
+--   length-xors-min                            as long as the shorter
+--   xors-more, xors-all                        a block applied byte by byte
+--   turn-le, turn-lt                           how far a turn comes
+--   Applied                                    a loop's invariant: the stream is applied to the first bytes
+--   applied-none, applied-more, applied-all    no byte yet, one block more, all bytes
 -- Assumes nothing.
-use mathlib.Core.Path.{_≡_, sym, ap, _∙_}
+use mathlib.Core.Path.{_≡_, refl, sym, ap, _∙_}
 use mathlib.Core.List.{List, [], _∷_, _++_}
 use Prim.Native.Nat.{ℕ, suc, _+_, _-_, _/_, _%_, _≤_, _<_, min}
 use native.Mathlib.Nat.{add-zero, zero-min, min-zero, suc-min-suc}
@@ -60,10 +61,6 @@ xors-all d b from i l e =
     let k : length (xors d (drop from b)) ≤ i = omega arith in
     ap (λ (w : List ℕ). over w d) (take-all i (xors d (drop from b)) k)
 
--- no byte yet
-pub apply-none : (f : ℕ → List ℕ) (p : ℕ) (d : List ℕ) → d ≡ over (apply f p (take 0 d)) d
-apply-none f p d = sym (rw apply-nil (over-nil d))
-
 xors-take-min : (s t : List ℕ) → xors (take (min (length s) (length t)) s) t ≡ xors s t
 unfolding xors
 xors-take-min [] t = rw zero-min
@@ -81,8 +78,8 @@ apply-front f q t r l e =
     let m : r ≡ min (length t) (length u) = omega arith in
     apply-block f q (take r t) l (omega arith) ∙ ap (λ (i : ℕ). xors (take i t) u) m ∙ xors-take-min t u
 
--- one block more: the tail from `done` on, lent to a writer that applies the block to it
-pub apply-turn : (f : ℕ → List ℕ) (p : ℕ) (d xs ys b : List ℕ) (done k r : ℕ) → length (f ((p + done) / 64)) ≡ 64
+-- the tail from `done` on, lent to a writer that applies the block to it
+apply-turn : (f : ℕ → List ℕ) (p : ℕ) (d xs ys b : List ℕ) (done k r : ℕ) → length (f ((p + done) / 64)) ≡ 64
     → xs ≡ over (apply f p (take done d)) d → done ≤ length d → k ≡ length d - done → b ≡ f ((p + done) / 64)
     → r ≡ min (length (take k (drop done xs))) (64 - (p + done) % 64)
     → ys ≡ over (xors (take k (drop done xs)) (drop ((p + done) % 64) b)) (take k (drop done xs))
@@ -103,30 +100,51 @@ apply-turn f p d xs ys b done k r l x h e g n y =
     rw front (over-tail w u d xs ys done k x v h e y′)
 
 -- how far a turn comes: no further than the end, and by a byte at least
-pub turn-le : (xs : List ℕ) (done q r : ℕ) → done ≤ length xs
-    → r ≡ min (length (take (length xs - done) (drop done xs))) (64 - q) → done + r ≤ length xs
-turn-le xs done q r h e =
+pub turn-le : (xs : List ℕ) (done place r : ℕ) → done ≤ length xs
+    → r ≡ min (length (take (length xs - done) (drop done xs))) (64 - place) → done + r ≤ length xs
+turn-le xs done place r h e =
     let n = ap length (part-tail done xs) ∙ length-drop done xs in
     omega arith
 
-pub turn-lt : (xs : List ℕ) (done q r : ℕ) → done < length xs → q < 64
-    → r ≡ min (length (take (length xs - done) (drop done xs))) (64 - q) → done < done + r
-turn-lt xs done q r h k e =
+pub turn-lt : (xs : List ℕ) (done place r : ℕ) → done < length xs → place < 64
+    → r ≡ min (length (take (length xs - done) (drop done xs))) (64 - place) → done < done + r
+turn-lt xs done place r h k e =
     let n = ap length (part-tail done xs) ∙ length-drop done xs in
     omega arith
+
+-- the stream is applied to the first `done` bytes of d, whose first byte stands at position p: xs is what stands there
+abbrev pub Applied : (ℕ → List ℕ) → ℕ → List ℕ → List ℕ → ℕ → Type 0
+Applied f p d xs done = (done ≤ length d) × (length xs ≡ length d) × (xs ≡ over (apply f p (take done d)) d)
+
+-- no byte yet
+pub applied-none : (f : ℕ → List ℕ) (p : ℕ) (d : List ℕ) → Applied f p d d 0
+applied-none f p d = (omega arith, refl, sym (rw apply-nil (over-nil d)))
 
 -- the length stays
-pub length-applied : (f : ℕ → List ℕ) (p : ℕ) (d : List ℕ) (n : ℕ) → n ≤ length d
+length-applied : (f : ℕ → List ℕ) (p : ℕ) (d : List ℕ) (n : ℕ) → n ≤ length d
     → length (over (apply f p (take n d)) d) ≡ length d
 length-applied f p d n h =
     let e = length-apply f p (take n d) ∙ length-take-le n d h in
     let k : length (apply f p (take n d)) ≤ length d = omega arith in
     length-over (apply f p (take n d)) d k
 
+-- one block more, by `xor_block` on the tail
+pub applied-more : (f : ℕ → List ℕ) (p : ℕ) (d xs ys b : List ℕ) (done place r : ℕ) → length (f ((p + done) / 64)) ≡ 64
+    → Applied f p d xs done → b ≡ f ((p + done) / 64) → place ≡ (p + done) % 64
+    → r ≡ min (length (take (length xs - done) (drop done xs))) (64 - place)
+    → ys ≡ over (xors (take (length xs - done) (drop done xs)) (drop place b)) (take (length xs - done) (drop done xs))
+    → Applied f p d (take done xs ++ (ys ++ drop (length xs - done) (drop done xs))) (done + r)
+applied-more f p d xs ys b done place r l a c q n y =
+    let h : done + r ≤ length d =
+    let g = turn-le xs done place r (omega arith) n in omega arith in
+    let k : length xs - done ≡ length d - done = omega arith in
+    let e = apply-turn f p d xs ys b done (length xs - done) r l (a .2) (a .0) k c (rw q at n) (rw q at y) in
+    (h, ap length e ∙ length-applied f p d (done + r) h, e)
+
 -- all bytes
-pub apply-all : (f : ℕ → List ℕ) (p : ℕ) (d : List ℕ) (done : ℕ) → length d ≤ done
-    → over (apply f p (take done d)) d ≡ apply f p d
-apply-all f p d done h =
+pub applied-all : (f : ℕ → List ℕ) (p : ℕ) (d xs : List ℕ) (done : ℕ) → Applied f p d xs done → length xs ≤ done
+    → xs ≡ apply f p d
+applied-all f p d xs done a h =
     let n = length-apply f p d in
     let k : length d ≤ length (apply f p d) = omega arith in
-    ap (λ (s : List ℕ). over (apply f p s) d) (take-all done d h) ∙ over-all (apply f p d) d k
+    a .2 ∙ ap (λ (s : List ℕ). over (apply f p s) d) (take-all done d (omega arith)) ∙ over-all (apply f p d) d k

@@ -1,15 +1,15 @@
--- `chacha20::block::serialize_sum` meets its contract. The invariant: the first i sums are written. Assumes nothing.
+-- `stream::serialize_sum` meets its contract. The invariant: the first i sums are written. Assumes nothing.
 use mathlib.Core.Path.{_≡_, sym, ap, _∙_}
 use Prim.Native.Nat.{_-_, _*_, _≤_, _<_}
 use native.Mathlib.Omega.{arith}
 use lib.ListN.{length, getD, take, replicate}
 use lib.Seq.{length-sets}
 use Rattle.words.specs.Endian.{leBytes}
-use Rattle.chacha20.specs.Rfc8439.{sum, serialize}
-use Rattle.chacha20.proofs.Laws.Block.{length-sum, getD-sum, serialize-none, serialize-more, serialize-all}
+use Rattle.stream.specs.Words.{sum, serialize}
+use Rattle.stream.proofs.Laws.Words.{length-sum, getD-sum, serialize-none, serialize-more, serialize-all}
 use borrow.Author.Needs.{needs}
-use Rattle.chacha20.proofs.block.serialize_sum.Statement.{statement}
-use Rattle.chacha20.proofs.block.serialize_sum.Tie as tie
+use Rattle.stream.proofs.serialize_sum.Statement.{statement}
+use Rattle.stream.proofs.serialize_sum.Tie as tie
 
 abbrev Inv-loop : tie.InvT-loop
 Inv-loop s t out₀ i₀ out i =

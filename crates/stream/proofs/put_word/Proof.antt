@@ -1,12 +1,12 @@
--- `chacha20::block::put_word` meets its contract. Assumes nothing.
+-- `stream::put_word` meets its contract. Assumes nothing.
 use Rattle.words.specs.Endian.{leBytes}
 use mathlib.Core.Path.{_≡_}
 use Prim.Native.Nat.{suc, _+_}
 use native.Mathlib.Omega.{arith}
 use lib.Pow.{shr-shr}
 use borrow.Author.Needs.{needs}
-use Rattle.chacha20.proofs.block.put_word.Statement.{statement}
-use Rattle.chacha20.proofs.block.put_word.Tie as tie
+use Rattle.stream.proofs.put_word.Statement.{statement}
+use Rattle.stream.proofs.put_word.Tie as tie
 
 returns : tie.Need-returns
 unfolding leBytes
