@@ -1,0 +1,2 @@
+pub mod Salsa20
+pub mod State
