@@ -1,0 +1,4 @@
+-- The inner stream: definitions.
+pub mod InnerStream
+pub mod State
+pub mod Stretches
