@@ -3,10 +3,11 @@
  * A function that can refuse answers a number: 0 is success, any other is a refusal (docs/REFUSALS.md). A refusal changes
  * no byte of an output, a count or figures. A success changes the bytes due at the front of an output, and none behind them.
  *
- * A state (of a hash, of the key transformation, of an opening) is an array that the caller lends. It is bytes to be
- * kept and handed back, and may be copied. Every value of the bytes is answered. An opening whose mark, cipher or numbers no
- * call leaves, zeros too, counts as closed: every step is 19. A key transformation whose mark or counts no call leaves counts
- * as refused: T is 19. Keys and halves are taken as they stand, and of a hash every value is a state.
+ * A state (of a hash, of the key transformation, of an opening, of an inner stream) is an array that the caller lends. It is
+ * bytes to be kept and handed back, and may be copied. Every value of the bytes is answered. An opening whose mark, cipher or
+ * numbers no call leaves, zeros too, counts as closed: every step is 19. A key transformation whose mark or counts no call
+ * leaves counts as refused: T is 19. An inner stream whose cipher or position no call leaves, zeros too, counts as refused:
+ * every stretch is 19. Keys, nonces and halves are taken as they stand, and of a hash every value is a state.
  *
  * A slice is a pointer that is not NULL, and a length, 0 too. Outputs, states and inputs of one call do not overlap.
  * No function keeps a pointer, allocates memory or has memory of its own.
@@ -55,6 +56,9 @@ void kdbx4_aes256_cbc_decrypt(const uint8_t key[32], const uint8_t iv[16], uint8
 
 /* ChaCha20 (RFC 8439): the stream from its byte `at` on. */
 void kdbx4_chacha20(const uint8_t key[32], const uint8_t nonce[12], uint64_t at, uint8_t *out, size_t n);
+
+/* Salsa20, of twenty rounds (D. J. Bernstein's specification): the stream from its byte `at` on. */
+void kdbx4_salsa20(const uint8_t key[32], const uint8_t nonce[8], uint64_t at, uint8_t *out, size_t n);
 
 /* ---- Keys ---- */
 
@@ -172,5 +176,24 @@ uint8_t kdbx4_attachment(const uint8_t *payload, size_t n, size_t index, kdbx4_a
 /* The payload of an algorithm, a key, a run of attachment fields and a document. 9, then 2, 7, 5 of the run, 1, 17. */
 uint8_t kdbx4_inner_write(uint32_t algorithm, const uint8_t *key, size_t k, const uint8_t *run, size_t r,
                           const uint8_t *document, size_t d, uint8_t *out, size_t room, size_t *count);
+
+/* ---- Inner stream: protected values, covered or uncovered, which is one operation ---- */
+
+/* An inner key, and where a stretch ends in the stream. */
+#define KDBX4_STREAM_LIMIT 4194304
+
+/* A stretch of n bytes at a position of the stream of an algorithm, 2 (Salsa20) or 3 (ChaCha20), and the inner key: over
+ * the front of `out`, and its length in `count`. 9; 1: a key, or the position and n together, over KDBX4_STREAM_LIMIT; 17. */
+uint8_t kdbx4_inner_stream(uint32_t algorithm, const uint8_t *key, size_t k, uint64_t position, const uint8_t *bytes,
+                           size_t n, uint8_t *out, size_t room, size_t *count);
+
+/* One stretch after the other, as the protected values stand in the document: the stream is not restarted between them.
+ * `start`: 9, 1 for the key, and a state that only 19 comes of. `apply`: the next stretch; 19, 1, 17, each of which leaves
+ * the state as it was. A stretch hashes no key and makes no block but its own. */
+#define KDBX4_INNER_STREAM_STATE 53
+uint8_t kdbx4_inner_stream_start(uint32_t algorithm, const uint8_t *key, size_t k,
+                                 uint8_t state[KDBX4_INNER_STREAM_STATE]);
+uint8_t kdbx4_inner_stream_apply(uint8_t state[KDBX4_INNER_STREAM_STATE], const uint8_t *bytes, size_t n, uint8_t *out,
+                                 size_t room, size_t *count);
 
 #endif

@@ -4,7 +4,7 @@
 -- In order: answer-accepted, answer-refused; answer-wrote, answer-not-written of an operation that writes into a slice;
 -- figuresOr-refused, answer-figures, answer-no-figures of one that answers figures, by its answer's number n;
 -- outcome-transformed, key-transformed of a run of Argon2; keptOr-wrote, keptOr-17, keptOr-19, keptOr-next of a step's
--- state, by its number; join-is, two halves as code lays them.
+-- state, by its number; kept-wrote, kept-refused of an inner stream's; join-is, two halves as code lays them.
 -- Assumes nothing.
 use mathlib.Core.Path.{_≡_, refl, sym, ap, _∙_}
 use mathlib.Core.List.{List, _++_}
@@ -24,7 +24,7 @@ use Rattle.refusals.specs.declared.Written.{Written}
 use Rattle.refusals.specs.declared.Written.the-variants as written
 use Rattle.argon2.specs.Rfc9106.{Inputs, tag}
 use Rattle.argon2.specs.Run.{transformed}
-use Rattle.exports.specs.Lent.{resultOr, figuresOr, countOr, keptOr}
+use Rattle.exports.specs.Lent.{resultOr, figuresOr, countOr, keptOr, keptUnless}
 
 pub answer-accepted : {o p : Outcome} {x y : List ℕ} (had : List ℕ) → o ≡ p → x ≡ y → o ≡ Accepted
     → (0 ≡ ofOutcome p) × (x ≡ resultOr p y had)
@@ -74,6 +74,14 @@ keptOr-19 y e a = rw (sym e ∙ a)
 pub keptOr-next : {n k : ℕ} {x y : List ℕ} (had : List ℕ) → n ≡ k → (n ≡ 17 → ⊥) → (n ≡ 19 → ⊥) → x ≡ y
     → x ≡ keptOr k y had
 keptOr-next {n} had e a b f = rw (sym e, ne-eqb n 17 a, ne-eqb n 19 b) f
+
+pub kept-wrote : {w v : Written} {n : ℕ} {x y : List ℕ} (had : List ℕ) → w ≡ v → w ≡ written.Wrote n → x ≡ y
+    → x ≡ keptUnless v y had
+kept-wrote had e a f = rw (sym e ∙ a) f
+
+pub kept-refused : {w v : Written} {r : Refusal} {had : List ℕ} (y : List ℕ) → w ≡ v → w ≡ written.Refused r
+    → had ≡ keptUnless v y had
+kept-refused y e a = rw (sym e ∙ a)
 
 pub join-is : (l r y z : List ℕ) → length l ≡ 16 → length r ≡ 16 → y ≡ putAt 0 l (replicate 32 0)
     → z ≡ putAt 16 r y

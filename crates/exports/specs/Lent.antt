@@ -9,6 +9,8 @@
 --   countOr       a number of bytes, where the operation wrote them
 --   stepped       a step from the state that 410 bytes stand for
 --   keptOr        the bytes of the state after it, by its number; stateOr
+--   streamed      a stretch of the inner stream that 53 bytes stand for; streamedBytes; streamOr: the bytes of the
+--                 state after it
 --   credential    the credential that a slice and a flag of C stand for
 -- Assumes nothing.
 use mathlib.Core.Bool.{cond, not, _||_}
@@ -49,7 +51,10 @@ use Rattle.opening.specs.Runs.{Reply}
 use Rattle.opening.specs.Steps.{stepOf}
 use Rattle.states.specs.Sha256State as sha256Bytes
 use Rattle.states.specs.Sha512State as sha512Bytes
+use Rattle.inner_stream.specs.State as innerStream
+use Rattle.inner_stream.specs.declared.Applied.{Applied}
 use Rattle.states.specs.OpenerState as openerBytes
+use Rattle.states.specs.InnerStreamState as streamBytes
 use Rattle.exports.specs.declared.vaults.Chosen.{Chosen}
 use Rattle.exports.specs.declared.vaults.Chosen.the-variants as chosenAs
 
@@ -138,6 +143,21 @@ keptOr number next had = cond (eqb number 17) had (cond (eqb number 19) had next
 
 abbrev pub stateOr : Reply Opener → List ℕ → List ℕ
 stateOr q had = keptOr (ofWritten (q .answer .written)) (openerBytes.packed (q .next)) had
+
+-- a stretch of the inner stream that the bytes stand for, with so many bytes lent
+abbrev pub streamed : List ℕ → List ℕ → ℕ → Applied
+streamed bytes s room = innerStream.applied (streamBytes.unpacked bytes) s room
+
+abbrev pub streamedBytes : List ℕ → List ℕ → ℕ → List ℕ
+streamedBytes bytes s room = innerStream.handed (streamBytes.unpacked bytes) s room
+
+-- a refused stretch leaves the state as it was: its very bytes
+abbrev pub keptUnless : Written → List ℕ → List ℕ → List ℕ
+keptUnless (written.Wrote n) next had = next
+keptUnless (written.Refused r) next had = had
+
+abbrev pub streamOr : Applied → List ℕ → List ℕ
+streamOr a had = keptUnless (a .written) (streamBytes.packed (a .next)) had
 
 -- given where the flag is not 0
 abbrev pub credential : ℕ → List ℕ → keys.Credential

@@ -1,13 +1,15 @@
-// The ciphers, in place: AES-256 (FIPS 197) in CBC mode (SP 800-38A), and ChaCha20 (RFC 8439). The contracts cite the
-// publications' definitions. Nothing is refused.
+// The ciphers, in place: AES-256 (FIPS 197) in CBC mode (SP 800-38A), ChaCha20 (RFC 8439), and
+// Salsa20 (its specification). The contracts cite the publications' definitions. Nothing is refused.
 ghost use mathlib.Core.Path.{_≡_};
 ghost use Rattle.stream.specs.Stream as stream;
 ghost use Rattle.chacha20.specs.Rfc8439 as rfc8439;
+ghost use Rattle.salsa20.specs.Salsa20 as salsa20;
 ghost use Rattle.fips197.specs.Fips197 as fips197;
 ghost use Rattle.cbc.specs.Sp80038a as sp80038a;
 ghost use Rattle.slices.specs.Over.{over};
 use aes::RoundKeys;
 use chacha20::ChaCha20;
+use salsa20::Salsa20;
 
 // CBC encryption (SP 800-38A) under AES-256 in place: the whole blocks of `out`. Bytes behind the last one stay.
 #[no_mangle]
@@ -39,4 +41,14 @@ pub extern "C" fn kdbx4_chacha20(key: &[u8; 32], nonce: &[u8; 12], at: u64, out:
     let k = *key;
     let n = *nonce;
     ChaCha20::apply(k, n, at, out);
+}
+
+// Salsa20 in place: the stream of a key and a nonce, from byte `at` of it on, applied to `out`.
+#[no_mangle]
+pub extern "C" fn kdbx4_salsa20(key: &[u8; 32], nonce: &[u8; 8], at: u64, out: &mut [u8])
+    ensures { λ _. ⌜ now (out .exit) ≡ stream.apply (salsa20.blocks (now (key .entry)) (now (nonce .entry))) at (now (out .entry)) ⌝ }
+{
+    let k = *key;
+    let n = *nonce;
+    Salsa20::apply(k, n, at, out);
 }

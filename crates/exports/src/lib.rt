@@ -2,12 +2,13 @@
 // it.
 //
 //   hashes          SHA-256 and SHA-512, whole and in parts, HMAC-SHA-256
-//   encryption      AES-256-CBC and ChaCha20, in place
+//   encryption      AES-256-CBC, ChaCha20 and Salsa20, in place
 //   derivation      composite key, AES-KDF whole and in parts, Argon2, cipher key, tag keys
 //   header          the outer header, and its listing
 //   dictionaries    checking, and finding a name
 //   vaults          opening, whole and block by block, and writing, under the transformed key T
 //   inner           the inner header, its attachments, and its writing
+//   streams         the inner stream: a stretch from the inner key, and a state that carries over
 // In C a slice is a pointer and a length, and an array or a number that is lent a pointer. A function that can refuse
 // answers document 01's number: 0 is success, and a refusal changes no lent byte. Figures are lent as an array of
 // numbers. A state is lent as an array of bytes, which crate states reads and writes. The contracts cite the
@@ -18,4 +19,5 @@ mod encryption;
 mod hashes;
 mod header;
 mod inner;
+mod streams;
 mod vaults;

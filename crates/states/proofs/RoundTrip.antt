@@ -1,7 +1,7 @@
 -- Unpacking what was packed gives the state again. So calls that each unpack a state, go on with it and pack the next
 -- one do what the calls on the state itself do.
 --
--- In order: sha256-round-trip, sha512-round-trip, aes-kdf-round-trip, opener-round-trip.
+-- In order: sha256-round-trip, sha512-round-trip, aes-kdf-round-trip, opener-round-trip, inner-stream-round-trip.
 -- Assumes nothing.
 use mathlib.Core.Path.{_≡_, refl, sym, ap, _∙_}
 use mathlib.Core.List.{List, [], _∷_, _++_, append-assoc, append-nil}
@@ -22,11 +22,15 @@ use Rattle.opening.specs.declared.Keys.{Keys}
 use Rattle.opening.specs.declared.Phase.{Phase}
 use Rattle.opening.specs.declared.Phase.the-variants.{Open, Closed, Ended}
 use Rattle.opening.specs.declared.Opener.{Opener}
+use Rattle.inner_stream.specs.declared.StreamCipher.{StreamCipher}
+use Rattle.inner_stream.specs.declared.StreamCipher.the-variants as streamCipher
+use Rattle.inner_stream.specs.declared.InnerStream.{InnerStream}
 use Rattle.states.specs.Words.{wordBytes}
 use Rattle.states.specs.Sha256State as sha256
 use Rattle.states.specs.Sha512State as sha512
 use Rattle.states.specs.AesKdfState as kdf
 use Rattle.states.specs.OpenerState as opener
+use Rattle.states.specs.InnerStreamState as stream
 use Rattle.states.proofs.Laws.Words.{length-wordBytes, le-back, wordsAt-back}
 use Rattle.states.proofs.Laws.Parts.{joined, Lies, lies-part, lies-next}
 
@@ -175,3 +179,28 @@ opener-round-trip o h =
       is = six-four marks (leBytes 8 (o .number)) (leBytes 8 (o .at)) (leBytes 8 (o .taken)) (o .prev) (o .held)
           (o .keys .key) words (o .keys .nonce) (o .keys .base);
     })
+
+stream-cipher-back : (c : StreamCipher) → stream.cipherOf (stream.byteOf c) ≡ c
+stream-cipher-back streamCipher.Salsa20 = refl
+stream-cipher-back streamCipher.ChaCha20 = refl
+stream-cipher-back streamCipher.Closed = refl
+
+inner-stream-unpacked : (s : InnerStream) (b : List ℕ) → stream.Typed s
+    → Lies b 0 ((stream.byteOf (s .cipher) ∷ []) ∷ s .key ∷ s .nonce ∷ leBytes 8 (s .position) ∷ [])
+    → stream.unpacked b ≡ s
+unfolding stream.unpacked
+inner-stream-unpacked s b h l₀ =
+    let l₁ = lies-next l₀ 1 refl in
+    let l₂ = lies-next l₁ 32 (h .long-key) in
+    let l₃ = lies-next l₂ 12 (h .long-nonce) in
+    rw (
+      byte-back b (stream.byteOf (s .cipher) ∷ []) 1 0 (lies-part l₀ 1 refl) (omega arith),
+      stream-cipher-back (s .cipher),
+      lies-part l₁ 32 (h .long-key),
+      lies-part l₂ 12 (h .long-nonce),
+      le-back 8 b 45 (s .position) (lies-part l₃ 8 (length-leBytes 8 (s .position))) (h .lt-position),
+    )
+
+pub inner-stream-round-trip : (s : InnerStream) → stream.Typed s → stream.unpacked (stream.packed s) ≡ s
+unfolding stream.packed
+inner-stream-round-trip s h = inner-stream-unpacked s _ h (record { is = simp (append-assoc, append-nil) })

@@ -4,3 +4,4 @@ pub mod Sha256State
 pub mod Sha512State
 pub mod AesKdfState
 pub mod OpenerState
+pub mod InnerStreamState

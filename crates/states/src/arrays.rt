@@ -83,6 +83,16 @@ pub(crate) fn read_words64(w: &mut [u64], s: &[u8], at: usize)
     }
 }
 
+// The twelve bytes at a place.
+pub(crate) fn bytes12_at(s: &[u8], at: usize) -> [u8; 12]
+    requires { ⌜ at + 12 ≤ length (now s) ⌝ }
+    ensures { λ r. ⌜ r ≡ take 12 (drop at (now (s .entry))) ⌝ }
+{
+    let mut a = [0u8; 12];
+    slices::copy(&mut a, &s[at..]);
+    a
+}
+
 // The sixteen bytes at a place.
 pub(crate) fn bytes16_at(s: &[u8], at: usize) -> [u8; 16]
     requires { ⌜ at + 16 ≤ length (now s) ⌝ }
