@@ -3,91 +3,13 @@
  *     rt staticlib exports
  *     gcc -O2 -Wall -Iinclude -o target/open examples/open.c target/staticlib/libexports.a
  *     target/open VAULT PASSWORD
- *
- * A refusal prints its number (docs/REFUSALS.md) to standard error, and the status is 1. The transformation of the key
- * is the long part: AES-KDF runs in parts that leave time for a screen or a watchdog, Argon2 in one call. A firmware
- * would keep the file and the payload where it has room for them: neither is more than KDBX4_FILE_LIMIT bytes. To
- * Argon2 it lends the words that it can spare: 17 refuses a vault that needs more, and 64 MiB are enough for any.
  */
-#include <stdio.h>
-#include <stdlib.h>
-#include <string.h>
-
-#include "kdbx4.h"
-
-#define ROUNDS_AT_ONCE 100000
-
-static uint8_t file[KDBX4_FILE_LIMIT + 1], payload[KDBX4_FILE_LIMIT];
-static uint64_t argon2_words[KDBX4_ARGON2_WORDS(67108864, 1)];
-static struct {
-    uint8_t composite[32], t[32], halves[32], kdf[KDBX4_AES_KDF_STATE], opener[KDBX4_OPENER_STATE];
-} secret;
-
-/* Clears memory, through a pointer that the compiler may not leave out. */
-static void clear(void *memory, size_t n) {
-    for (volatile uint8_t *byte = memory; n > 0; n--) *byte++ = 0;
-}
-
-static void leave(int status) {
-    clear(&secret, sizeof secret), clear(payload, sizeof payload);
-    exit(status);
-}
-
-/* Goes on where a call was accepted. */
-static void check(const char *what, uint8_t number) {
-    if (number == 0) return;
-    fprintf(stderr, "%s: refused with %d\n", what, number);
-    leave(1);
-}
-
-/* T by AES-KDF, of a composite key and a header's figures. */
-static void transform(const kdbx4_header_figures *header) {
-    uint32_t done = 0;
-    check("rounds", kdbx4_aes_kdf_start(secret.composite, file + header->salt.start, header->rounds, secret.kdf));
-    while (done < header->rounds) {
-        kdbx4_aes_kdf_advance(secret.kdf, ROUNDS_AT_ONCE, &done, secret.halves);
-        fprintf(stderr, "%u of %llu rounds\n", done, (unsigned long long)header->rounds);
-    }
-    check("key", kdbx4_aes_kdf_finish(secret.kdf, secret.t));
-}
-
-/* T by Argon2, which leaves the words that it used as zeros. */
-static void transform_argon2(const kdbx4_header_figures *header) {
-    check("key", kdbx4_argon2(header->kdf, secret.composite, file + header->salt.start, header->salt.length,
-                              header->rounds, header->memory, header->lanes, argon2_words,
-                              sizeof argon2_words / sizeof *argon2_words, secret.t));
-}
-
-/* The payload, block by block: its length. A step is handed the whole file, and what is left of the room. */
-static size_t open_blocks(size_t n) {
-    size_t length = 0, count;
-    check("start", kdbx4_start(file, n, secret.t, secret.opener));
-    while (!KDBX4_IS_ENDED(secret.opener)) {
-        check("block", kdbx4_step(secret.opener, file, n, payload + length, sizeof payload - length, &count));
-        length += count;
-    }
-    return length;
-}
+#include "vault.h"
 
 int main(int words, char **word) {
     if (words != 3) return fputs("usage: open VAULT PASSWORD\n", stderr), 2;
-    FILE *vault = fopen(word[1], "rb");
-    if (!vault) return perror(word[1]), 2;
-    size_t n = fread(file, 1, sizeof file, vault); /* a byte over the limit, if there is one, so that it is refused */
-    fclose(vault);
-
-    const uint8_t none[1] = {0};
-    kdbx4_header_figures header;
-    check("header", kdbx4_header(file, n, &header));
-    const uint8_t *password = (const uint8_t *)word[2];
-    size_t p = strlen(word[2]);
-    check("password", kdbx4_composite(password, p, 1, none, 0, 0, none, 0, 0, secret.composite));
-    clear(word[2], p);
-    header.kdf == KDBX4_AES_KDF ? transform(&header) : transform_argon2(&header);
-
     kdbx4_inner_figures inner;
-    size_t length = open_blocks(n);
-    check("inner header", kdbx4_inner(payload, length, &inner));
+    size_t length = open_vault(word[1], word[2], &inner);
     fprintf(stderr, "%llu attachments\n", (unsigned long long)inner.attachments);
     fwrite(payload + inner.document, 1, length - inner.document, stdout);
     leave(fflush(stdout) == 0 ? 0 : 2);
