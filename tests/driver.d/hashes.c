@@ -23,12 +23,6 @@ static const algorithm *asked_algorithm(request *q) {
     request_fault(q, "alg: unknown");
 }
 
-/* A part: bytes, or so many zeros. */
-static slice part_bytes(request *q, const json_value *part) {
-    if (part->kind != JSON_OBJECT) return value_bytes(q, part, "parts");
-    return lend_input(q, (slice){NULL, 0}, field_number(q, part, "zeros", UINT64_MAX));
-}
-
 /* Feeds a part. After a refusal the state is to be as it was. */
 static uint8_t fed(request *q, const algorithm *a, uint8_t *state, slice part) {
     uint8_t before[KDBX4_SHA512_STATE];
@@ -49,7 +43,7 @@ void op_hash(request *q) {
     json_begin(&q->answer, '[');
     for (const json_value *part = parts->first; part; part = part->next) {
         const struct block *last = q->blocks;
-        json_number(&q->answer, fed(q, a, state, part_bytes(q, part)));
+        json_number(&q->answer, fed(q, a, state, value_input(q, part, "parts")));
         request_free(q, last);
     }
     json_end(&q->answer, ']');

@@ -26,6 +26,8 @@
  *                                                               attachments [[start, length, flags], ..]
  *   attachment   data, index                                    flags, at, length, content
  *   inner_write  alg, key, run, data, lent                      length, payload
+ *   stream       alg, key, position, data, lent                 bytes
+ *   streams      alg, key, parts [bytes or {"zeros": n}, ..]    parts [{no, bytes}, ..]
  *
  * - `kdf` is {kind: "aeskdf", S, R} or {kind: "argon2d" or "argon2id", S, I, M, P}; a header's has V too. A kind that
  *   is asked for may also be a number, which is handed on as it stands.
@@ -35,6 +37,9 @@
  * - Each of the `steps` has all three: after a refusal a count of 0 and no bytes, which is document 01's "zero in every
  *   other answer". "touched" stands in the step's own object; after 17 and 19 the state too is to be as it was. A
  *   refused start answers its number alone.
+ * - The key and the data of `stream`, and the key of `streams`, may be {"zeros": n} too. Each part of `streams` is lent
+ *   enough; a refused one has its number alone, and the state is to be as it was, else "touched" stands in the part's own
+ *   object. A refused start answers its number alone.
  * - T of `rounds` is asked for once, behind the helpings: T_no is the number of that.
  * - The cipher of `write` is "aes", "chacha" or the identifier's bytes, of any length. An absent "custom" has no bytes.
  * - An absent "lent", and one past what is surely enough, means large enough.
@@ -68,6 +73,8 @@ static const struct {
     {"inner", op_inner},
     {"attachment", op_attachment},
     {"inner_write", op_inner_write},
+    {"stream", op_stream},
+    {"streams", op_streams},
 };
 
 static void answer_operation(request *q) {

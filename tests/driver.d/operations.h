@@ -30,4 +30,8 @@ void op_inner(request *q);
 void op_attachment(request *q);
 void op_inner_write(request *q);
 
+/* streams.c */
+void op_stream(request *q);
+void op_streams(request *q);
+
 #endif

@@ -102,6 +102,13 @@ slice field_bytes(request *q, const json_value *object, const char *name) {
     return value_bytes(q, field_of(q, object, name), name);
 }
 
+slice value_input(request *q, const json_value *value, const char *name) {
+    if (value->kind != JSON_OBJECT) return value_bytes(q, value, name);
+    return lend_input(q, (slice){NULL, 0}, field_number(q, value, "zeros", UINT64_MAX));
+}
+
+slice field_input(request *q, const char *name) { return value_input(q, field_of(q, q->asked, name), name); }
+
 const uint8_t *field_array_of(request *q, const json_value *object, const char *name, size_t n) {
     slice bytes = field_bytes(q, object, name);
     if (bytes.length != n) request_fault(q, "%s: not %zu bytes", name, n);
