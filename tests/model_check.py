@@ -1,4 +1,5 @@
-"""The model by itself: files of other programs, the worked numbers and the worked listing of document 01.
+"""The model by itself: files of other programs, the worked numbers and the worked listing of document 01, and the
+published numbers of Salsa20, which the model makes itself.
 
 This is what `tests/differential --self` runs. The fixtures' manifest was made by their own programs.
 """
@@ -9,9 +10,9 @@ from random import Random
 
 from inputs.requests import some_vault
 from inputs.shapes import Block, sound_vault
-from model import header as outer, inner, keys, vault
+from model import header as outer, inner, keys, salsa20, stream, vault
 from model.dictionary import AES_KDF, ARGON2D, ARGON2ID, kdf_figures
-from model.limits import Refusal
+from model.limits import STREAM_LIMIT, Refusal
 from model.primitives import sha256
 
 LISTING = """\
@@ -24,6 +25,44 @@ LISTING = """\
 005320000000333333333333333333333333333333333333333333333333333333333333333300
 00040000000D0A0D0A
 """
+
+# The examples of Salsa20's specification: section 3 (a quarter round), section 9 (a block).
+QUARTER_ROUNDS = (
+    ("00000000 00000000 00000000 00000000", "00000000 00000000 00000000 00000000"),
+    ("00000001 00000000 00000000 00000000", "08008145 00000080 00010200 20500000"),
+    ("00000000 00000001 00000000 00000000", "88000100 00000001 00000200 00402000"),
+    ("00000000 00000000 00000001 00000000", "80040000 00000000 00000001 00002000"),
+    ("00000000 00000000 00000000 00000001", "00048044 00000080 00010000 20100001"),
+    ("e7e8c006 c4f9417d 6479b4b2 68c67137", "e876d72b 9361dfd5 f1460244 948541a3"),
+    ("d3917c5b 55f1c407 52a58a7a 8f887a3b", "3e2f308c d90a8f36 6ab2a923 2883524c"),
+)
+SALSA20_BLOCK = """
+    45254427290f6bc1ff8b7a06aae9d9625990b66a1533c841ef31de22d772287e
+    68c507e1c5991f02664e4cb054f5f6b8b1a0858206489577c0c384ecea67f64a
+"""
+# ECRYPT's vectors of Salsa20/20 with a key of 256 bits: key, nonce, and 64 bytes of the stream at a position.
+SALSA20_STREAM = (
+    ("8000000000000000000000000000000000000000000000000000000000000000", "0000000000000000", (
+        (0, """e3be8fdd8beca2e3ea8ef9475b29a6e7003951e1097a5c38d23b7a5fad9f6844
+               b22c97559e2723c7cbbd3fe4fc8d9a0744652a83e72a9c461876af4d7ef1a117"""),
+        (192, """57be81f47b17d9ae7c4ff15429a73e10acf250ed3a90a93c711308a74c6216a9
+                 ed84cd126da7f28e8abf8bb63517e1ca98e712f4fb2e1a6aed9fdc73291faa17"""),
+        (256, """958211c4ba2ebd5838c635edb81f513a91a294e194f1c039aeec657dce40aa7e
+                 7c0af57cacefa40c9f14b71a4b3456a63e162ec7d8d10b8ffb1810d71001b618"""),
+        (448, """696afcfd0cddcc83c7e77f11a649d79acdc3354e9635ff137e929933a0bd6f53
+                 77efa105a3a4266b7c0d089d08f1e855cc32b15b93784a36e56a76cc64bc8477"""),
+    )),
+    ("0053a6f94c9ff24598eb3e91e4378add3083d6297ccf2275c81b6ec11467ba0d", "0d74db42a91077de", (
+        (0, """f5fad53f79f9df58c4aea0d0ed9a9601f278112ca7180d565b420a48019670ea
+               f24ce493a86263f677b46ace1924773d2bb25571e1aa8593758fc382b1280b71"""),
+        (65_472, """b70c50139c63332ef6e77ac54338a4079b82bec9f9a403dfea821b83f7860791
+                    650ef1b2489d0590b1de772eeda4e3bcd60fa7ce9cd623d9d2fd5758b8653e70"""),
+        (65_536, """81582c65d7562b80aec2f1a673a9d01c9f892a23d4919f6ab47b9154e08e699b
+                    4117d7c666477b60f8391481682f5d95d96623dbc489d88daa6956b9f0646b6e"""),
+        (131_008, """a13ffa1208f8bf50900886faab40fd10e8caa306e63df39536a1564fb760b242
+                     a9d6a4628cdc878762834e27a541da2a5e3b3445989c76f611e0fec6d91acacc"""),
+    )),
+)
 
 
 class Tally:
@@ -224,6 +263,49 @@ def check_key_file(tally):
         tally.same("key file: " + label, keys.key_file_part(key_file), part)
 
 
+def words(text):
+    """Words in hexadecimal, with spaces between."""
+    return tuple(int(word, 16) for word in text.split())
+
+
+def check_salsa20(tally):
+    """Salsa20 in published numbers: many blocks made at once, and each by itself."""
+    for given, right in QUARTER_ROUNDS:
+        tally.same("quarter round", salsa20.quarter_round(*words(given), salsa20.LOW), words(right))
+    key, nonce = bytes([*range(1, 17), *range(201, 217)]), bytes(range(101, 117))
+    number = int.from_bytes(nonce[8:], "little")
+    tally.same("block", salsa20.salsa20(key, nonce[:8], bytes(64), number), bytes.fromhex(SALSA20_BLOCK))
+    for key, nonce, stretches in SALSA20_STREAM:
+        key, nonce = bytes.fromhex(key), bytes.fromhex(nonce)
+        whole = salsa20.salsa20(key, nonce, bytes(131_072), 0)
+        for at, right in stretches:
+            tally.same("stream at %d" % at, whole[at : at + 64], bytes.fromhex(right))
+            tally.same("block at %d" % at, salsa20.salsa20(key, nonce, bytes(64), at // 64), bytes.fromhex(right))
+
+
+def stretched(algorithm, key, position, data, lent=None):
+    """Item 1's stretch, straight from the inner key."""
+    return stream.stretch(stream.started(algorithm, key), position, data, lent)
+
+
+def check_stream(tally):
+    """Item 1 in numbers: "so 23 bytes and then 19 use stream bytes 0 to 22 and 23 to 41", and its refusals in order."""
+    for algorithm in (2, 3):
+        state, right = stream.State(algorithm, b"key"), stretched(algorithm, b"key", 0, bytes(42))
+        tally.same("23 bytes", state.part(bytes(23)), right[:23])
+        tally.same("then 19", state.part(bytes(19)), right[23:])
+        tally.same("19 alone", stretched(algorithm, b"key", 23, bytes(19)), right[23:])
+    most = STREAM_LIMIT
+    for algorithm, key, position, data, lent, number in (
+        (2, 3, most, 0, 0, 0), (3, 3, most - 1, 1, 1, 0), (3, 3, most, 1, 1, 1), (2, 3, most + 1, 0, 0, 1),
+        (3, most, 0, 9, 9, 0), (3, most + 1, 0, 9, 9, 1), (2, 3, 0, most + 1, most, 1), (3, 3, 2**64 - 1, 1, 1, 1),
+        (3, 3, 0, 9, 8, 17), (3, 3, 0, 9, 10, 0), (2, most + 1, 0, 9, 8, 1), (2, 3, most, 9, 8, 1),
+        (0, 3, 0, 9, 9, 9), (1, 3, 0, 9, 9, 9), (4, 3, 0, 9, 8, 9), (4, most + 1, most, 9, 8, 9),
+    ):
+        given = number_of(stretched, algorithm, bytes(key), position, bytes(data), lent)
+        tally.same("stretch %d %d %d %d %d" % (algorithm, key, position, data, lent), given, number)
+
+
 def check_listing(tally):
     """The worked listing, and the R lines."""
     data = written(outer.CHACHA20, 5)
@@ -250,6 +332,8 @@ def check_model(fixtures):
     check_refusals(tally)
     check_argon2(tally)
     check_key_file(tally)
+    check_salsa20(tally)
+    check_stream(tally)
     check_listing(tally)
     check_agreement(tally)
     check_fixtures(tally, fixtures)

@@ -1,8 +1,8 @@
-"""The few large requests: at each limit of document 01 and of Item 6, and one past it. With them the small ones at the
-lengths of Item 2."""
+"""The few large requests: at each limit of document 01 and of Items 1 and 6, and one past it. With them the small ones
+at the lengths of Item 2 and the positions of Item 1."""
 
 from model import vault as opening
-from model.limits import FILE_LIMIT, MESSAGE_LIMIT, PROGRAM_LIMIT
+from model.limits import FILE_LIMIT, MESSAGE_LIMIT, PROGRAM_LIMIT, STREAM_LIMIT
 
 from .shapes import Block, Dictionary, Field, Item, sound_inner, sound_vault
 
@@ -127,9 +127,14 @@ def digits_of(length, behind=b""):
     return lambda rng: {"op": "composite", "keyfile": (digits[:length] + behind).hex()}
 
 
+def asked(part):
+    """A part as a request has it: so many zeros, or bytes as they are."""
+    return part.hex() if isinstance(part, bytes) else {"zeros": part}
+
+
 def hash_of(alg, *parts):
     """Feeds of so many zeros; bytes stand as they are."""
-    made = [part.hex() if isinstance(part, bytes) else {"zeros": part} for part in parts]
+    made = [asked(part) for part in parts]
     return lambda rng: {"op": "hash", "alg": alg, "parts": made}
 
 
@@ -177,6 +182,18 @@ def inner_write_of(length, lent=None, algorithm=2):
         return made
 
     return make
+
+
+def stream_of(alg, key, position, data, lent=None):
+    """One stretch of so many zeros, with such a key."""
+    made = {"op": "stream", "alg": alg, "key": asked(key), "position": position, "data": asked(data)}
+    return lambda rng: made if lent is None else {**made, "lent": lent}
+
+
+def streams_of(alg, key_length, *parts):
+    """Parts of so many zeros, with a random key of that length."""
+    made = [asked(part) for part in parts]
+    return lambda rng: {"op": "streams", "alg": alg, "key": rng.randbytes(key_length).hex(), "parts": made}
 
 
 BORDERS = (
@@ -259,6 +276,39 @@ BORDERS = (
     lambda rng: {"op": "lookup", "data": many_items(1500).hex(), "name": b"1499".hex()},
     lambda rng: {"op": "lookup", "data": dictionary_of(FILE_LIMIT + 1).hex(), "name": b"a".hex()},
     lambda rng: {"op": "lookup", "data": many_items(2).hex(), "name": bytes(FILE_LIMIT + 1).hex()},
+    stream_of(2, b"key", 0, STREAM_LIMIT),
+    stream_of(3, b"key", 0, STREAM_LIMIT, STREAM_LIMIT),
+    stream_of(3, b"key", 65, STREAM_LIMIT - 65),
+    stream_of(2, b"key", 0, STREAM_LIMIT, STREAM_LIMIT - 1),
+    stream_of(2, b"key", 0, STREAM_LIMIT + 1),
+    stream_of(3, b"key", 0, STREAM_LIMIT + 1, 0),
+    stream_of(5, b"key", 0, STREAM_LIMIT + 1, 0),
+    stream_of(3, b"key", 1, STREAM_LIMIT),
+    stream_of(2, b"key", 2**64 - STREAM_LIMIT, STREAM_LIMIT),
+    stream_of(3, b"key", 2**32 - STREAM_LIMIT, STREAM_LIMIT),
+    stream_of(2, b"key", STREAM_LIMIT, b"", 0),
+    stream_of(3, b"key", STREAM_LIMIT, b"", 0),
+    stream_of(2, b"key", STREAM_LIMIT + 1, b"", 0),
+    stream_of(2, b"key", STREAM_LIMIT - 1, b"a"),
+    stream_of(3, b"key", STREAM_LIMIT, b"a"),
+    stream_of(3, b"key", 2**64 - 1, b"", 0),
+    stream_of(2, b"key", 2**64 - 1, b"a", 0),
+    stream_of(2, STREAM_LIMIT, 23, b"password", 8),
+    stream_of(3, STREAM_LIMIT, 23, b"password", 7),
+    stream_of(3, STREAM_LIMIT, 23, b"password"),
+    stream_of(2, STREAM_LIMIT + 1, 23, b"password"),
+    stream_of(3, STREAM_LIMIT + 1, 0, b"", 0),
+    stream_of(3, STREAM_LIMIT + 1, 23, b"password", 7),
+    stream_of(1, STREAM_LIMIT + 1, 23, b"password", 7),
+    streams_of(2, 64, 23, STREAM_LIMIT - 22, STREAM_LIMIT - 23, b"", 1, b""),
+    streams_of(3, 64, 23, STREAM_LIMIT - 22, STREAM_LIMIT - 24, 2, b"a", b"b", b""),
+    streams_of(3, 32, STREAM_LIMIT, 1, b""),
+    streams_of(2, 32, STREAM_LIMIT + 1, 19, STREAM_LIMIT, 23),
+    streams_of(2, STREAM_LIMIT, b"first", b"second"),
+    streams_of(3, STREAM_LIMIT, b"first", b"second"),
+    streams_of(3, STREAM_LIMIT + 1, b"first", b"second"),
+    streams_of(2, STREAM_LIMIT + 1),
+    streams_of(4, STREAM_LIMIT + 1, b"first"),
 )
 
 

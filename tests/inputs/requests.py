@@ -9,7 +9,7 @@ from model import vault as opening
 from model.answers import file_of_step
 from model.header import AES, CHACHA20, NONCE_LENGTH
 from model.keys import argon2_words
-from model.limits import FILE_LIMIT, Refusal
+from model.limits import FILE_LIMIT, STREAM_LIMIT, Refusal
 
 from . import edits
 from .borders import BORDERS, border, seeds
@@ -193,11 +193,16 @@ def hash_length(rng):
     return max(0, rng.choice((border_length + rng.randrange(-2, 3), rng.randrange(600))))
 
 
+def some_octets(rng, length):
+    """So many random bytes; some are asked for as zeros."""
+    return {"zeros": length} if rng.random() < 0.1 else rng.randbytes(length).hex()
+
+
 def request_hash(rng):
     parts = []
     for _ in range(rng.randrange(7)):
         length = rng.choice((0, 1, 63, 64, 65, 127, 128, 129, hash_length(rng)))
-        parts.append({"zeros": length} if rng.random() < 0.1 else rng.randbytes(length).hex())
+        parts.append(some_octets(rng, length))
     return {"alg": rng.choice(("sha256", "sha512")), "parts": parts}
 
 
@@ -496,26 +501,121 @@ def request_inner_write(rng):
     return made
 
 
+# ----- the inner stream
+
+OTHER_ALGORITHMS = (0, 1, 4, 5, 258, 259, 2**16 + 3, 2**31 + 2, 2**32 - 1)
+BLOCKS = (0, 0, 1, 2, 3, 255, 256, 257, 65_534, 65_535)  # the last one ends at the limit
+
+
+def inner_key_length(rng):
+    return rng.choice((0, 1, 31, 32, 32, 33, 44, 63, 64, 64, 65, 127, 128, hash_length(rng)))
+
+
+def stretch_length(rng):
+    """The lengths of the worked passwords, one around a block's, or any; few are long."""
+    if rng.random() < 0.02:
+        return rng.randrange(5000)
+    return rng.choice((0, 0, 1, 19, 23, 63, 64, 65, 127, 128, 129, rng.randrange(300)))
+
+
+def stretch_position(rng, length):
+    """A position that passes: around a block's border, any, or one of the last for that length."""
+    border_position = 64 * rng.choice(BLOCKS + 2 * (rng.randrange(65_536),)) + rng.choice((-1, 0, 0, 1))
+    last = STREAM_LIMIT - length
+    inside = border_position + rng.randrange(64)
+    made = rng.choice((border_position, border_position, inside, inside, rng.randrange(last + 1), last, last - 1))
+    return min(max(0, made), last)
+
+
+def asked_length(part):
+    """The length of bytes as a request has them."""
+    return part["zeros"] if isinstance(part, dict) else len(part) // 2
+
+
+def stream_algorithm(rng, made):
+    made["alg"] = rng.choice(OTHER_ALGORITHMS)
+
+
+def stream_past(rng, made):
+    """A position from which on the bytes pass the limit, or one at which a number of 32 or 64 bits is cut."""
+    length = asked_length(made["data"])
+    last = STREAM_LIMIT - length
+    cut = rng.choice((2**32, 2**64)) - rng.choice((0, 1, length, length, length + 1))
+    huge = rng.choice((2**32 + rng.randrange(100), 2**63, LARGEST, rng.randrange(2**64)))
+    position = rng.choice((last + 1, last + 1, last + 2, STREAM_LIMIT, STREAM_LIMIT + 1, cut, huge))
+    made["position"] = min(position, LARGEST)
+
+
+def stream_key(rng, made):
+    made["key"] = {"zeros": STREAM_LIMIT + rng.choice((1, 1, 2, 64))}
+
+
+def stream_data(rng, made):
+    """Data over the limit, by itself or with the position."""
+    over = STREAM_LIMIT + 1
+    made["data"] = {"zeros": rng.choice((over, max(1, over - made["position"])))}
+
+
+# Few need megabytes.
+STREAM = 12 * (stream_algorithm,) + 16 * (stream_past,) + (stream_key, stream_data)
+
+
+def request_stream(rng):
+    length = stretch_length(rng)
+    made = {
+        "alg": rng.choice((2, 3)),
+        "key": some_octets(rng, inner_key_length(rng)),
+        "position": stretch_position(rng, length),
+        "data": some_octets(rng, length),
+    }
+    edits.apply(rng, STREAM, made, (0.6, 0.9, 0.98))
+    if rng.random() < 0.6:
+        made["lent"] = around(rng, length)
+    return made
+
+
+def part_length(rng, position):
+    """A length; some end at a block's border."""
+    return stretch_length(rng) if rng.random() < 0.8 else -position % 64 + rng.choice((0, 0, 64))
+
+
+def request_streams(rng):
+    """Parts that fit, empty ones too. In few requests some pass the limit and leave the state as it was."""
+    parts, position = [], 0
+    fewest, share_past = (4, 0.3) if rng.random() < 0.04 else (0, 0.0)
+    for _ in range(rng.randrange(fewest, 8 if rng.random() < 0.97 else 40)):
+        if rng.random() < share_past:
+            parts.append({"zeros": STREAM_LIMIT - position + rng.choice((1, 1, 2, 64))})
+            continue
+        length = part_length(rng, position)
+        parts.append(some_octets(rng, length))
+        position += length
+    algorithm = rng.choice((2, 3)) if rng.random() < 0.92 else rng.choice(OTHER_ALGORITHMS)
+    return {"alg": algorithm, "key": rng.randbytes(inner_key_length(rng)).hex(), "parts": parts}
+
+
 # ----- one of all
 
 # Shares of the operations in a thousand requests.
 SHARES = {
-    "header": (190, request_header),
-    "list": (60, request_header),
-    "dict": (90, request_dict),
-    "lookup": (70, request_lookup),
+    "header": (160, request_header),
+    "list": (55, request_header),
+    "dict": (80, request_dict),
+    "lookup": (60, request_lookup),
     "composite": (30, request_composite),
     "rounds": (40, request_rounds),
     "argon2": (40, request_argon2),
     "keys": (20, request_keys),
-    "hash": (50, request_hash),
+    "hash": (45, request_hash),
     "tag": (40, request_tag),
-    "open": (110, request_open),
-    "steps": (110, request_steps),
+    "open": (105, request_open),
+    "steps": (105, request_steps),
     "write": (60, request_write),
     "inner": (50, request_inner),
     "attachment": (20, request_attachment),
     "inner_write": (20, request_inner_write),
+    "stream": (40, request_stream),
+    "streams": (30, request_streams),
 }
 TABLE = [(op, make) for op, (share, make) in SHARES.items() for _ in range(share)]
 

@@ -3,15 +3,20 @@
 Bytes are lower-case hexadecimal. A refusal answers its number alone.
 """
 
-from . import dictionary, header as outer, inner, keys, vault
+from . import dictionary, header as outer, inner, keys, stream, vault
 from .limits import MESSAGE_LIMIT, Refusal, within
 from .primitives import hmac_sha256, sha256, sha512
 
 
+def octets_of(part):
+    """The bytes of a part: hexadecimal, or {"zeros": n} for so many zeros."""
+    return bytes(part["zeros"]) if isinstance(part, dict) else bytes.fromhex(part)
+
+
 def octets(request, name):
     """The bytes of a field, or None where it is absent."""
-    text = request.get(name)
-    return None if text is None else bytes.fromhex(text)
+    part = request.get(name)
+    return None if part is None else octets_of(part)
 
 
 def span(bounds):
@@ -95,7 +100,7 @@ def answer_hash(request):
         except Refusal as refusal:
             feeds.append(refusal.number)
             continue
-        fed += bytes(length) if isinstance(part, dict) else bytes.fromhex(part)
+        fed += octets_of(part)
         feeds.append(0)
     digest = {"sha256": sha256, "sha512": sha512}[request["alg"]]
     return {"feeds": feeds, "digest": digest(bytes(fed)).hex()}
@@ -176,6 +181,27 @@ def answer_inner_write(request):
     return {"length": len(made), "payload": made.hex()}
 
 
+def answer_stream(request):
+    """An absent `lent` is as long as the data."""
+    cipher = stream.started(request["alg"], octets(request, "key"))
+    made = stream.stretch(cipher, request["position"], octets(request, "data"), request.get("lent"))
+    return {"bytes": made.hex()}
+
+
+def answer_part(state, data):
+    """One part of `streams`: its number, and its bytes where it is accepted."""
+    try:
+        return {"no": 0, "bytes": state.part(data).hex()}
+    except Refusal as refusal:
+        return {"no": refusal.number}
+
+
+def answer_streams(request):
+    """ "one state, applied to each part in turn"."""
+    state = stream.State(request["alg"], octets(request, "key"))
+    return {"parts": [answer_part(state, octets_of(part)) for part in request["parts"]]}
+
+
 OPERATIONS = {
     "header": answer_header,
     "list": answer_list,
@@ -193,6 +219,8 @@ OPERATIONS = {
     "inner": answer_inner,
     "attachment": answer_attachment,
     "inner_write": answer_inner_write,
+    "stream": answer_stream,
+    "streams": answer_streams,
 }
 
 

@@ -1,10 +1,11 @@
-"""Refusal numbers and limits (document 01, "Numbers of the terminal" and "Refusal numbers"; document 02, Item 6)."""
+"""Refusal numbers and limits (document 01, "Numbers of the terminal" and "Refusal numbers"; document 02)."""
 
 FILE_LIMIT = 4_194_304  # file or payload, read or written; password; key file
 MESSAGE_LIMIT = 8_388_608  # one hash or tag message in all
 ROUNDS_LIMIT = 4_000_000
 WRITTEN_BLOCK = 16_384  # bytes of ciphertext in a written block
 PROGRAM_LIMIT = 65_536  # a PC program's input
+STREAM_LIMIT = 4_194_304  # Item 1: the inner key; position plus length. R: Item 7 leaves these
 
 # Item 6: "Accept V 0x13, S of 8 to 64 bytes, I 1 to 64, M 8,192 to 67,108,864, P 1 to 16, M at least 8,192 times P."
 ARGON2_VERSION = 0x13

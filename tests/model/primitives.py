@@ -37,9 +37,9 @@ def cbc_decrypt(key, iv, data):
     return Cipher(algorithms.AES(key), modes.CBC(iv)).decryptor().update(data)
 
 
-def chacha20(key, nonce, data):
-    """ChaCha20 with the counter from 0; it is its own inverse."""
-    counter = bytes(4)
+def chacha20(key, nonce, data, block=0):
+    """ChaCha20 with the counter from that block on; it is its own inverse."""
+    counter = (block % 2**32).to_bytes(4, "little")
     return Cipher(algorithms.ChaCha20(key, counter + nonce), None).encryptor().update(data)
 
 
