@@ -1,18 +1,16 @@
 """The XML documents of vaults, for tests/interop: reading them with their protected values uncovered, comparing them
 with what another program says, and making one.
 
-Protected values are covered by one stream across the document: algorithm 3 is ChaCha20 under SHA-512 of the inner key
-(its first 32 bytes the key, the next 12 the nonce), 2 is Salsa20 under SHA-256 of it, with a fixed nonce.
+Protected values are covered by one stream across the document. No cipher is here: `stream` stands for the library's own
+operations (library.py), and takes all values of a document, in its order, to the values covered or uncovered.
 """
 import base64
 import hashlib
 import itertools
 import xml.etree.ElementTree as ElementTree
 
-from cryptography.hazmat.primitives.ciphers import Cipher, algorithms
-
 SALSA20, CHACHA20 = 2, 3
-SALSA20_NONCE = bytes.fromhex("E830094B97205D2A")
+STREAMS = {SALSA20: "Salsa20", CHACHA20: "ChaCha20"}
 NO_UUID = base64.b64encode(bytes(16)).decode()
 # What KeePassXC leaves out or puts in where nothing else is said, and what it adds to custom data itself.
 DEFAULTS = {("IconID", "0"), ("QualityCheck", "True")}
@@ -21,59 +19,27 @@ UNORDERED = ("String", "Item")
 FIELDS = {"title": "Title", "username": "UserName", "password": "Password", "url": "URL", "notes": "Notes"}
 
 
-def salsa20_block(key, counter):
-    """A block of Salsa20 (D. J. Bernstein, Salsa20 specification, sections 3 to 9)."""
-
-    def words(bytes_):
-        return [int.from_bytes(bytes_[at : at + 4], "little") for at in range(0, len(bytes_), 4)]
-
-    constant, k = words(b"expand 32-byte k"), words(key)
-    start = [constant[0], *k[:4], constant[1], *words(SALSA20_NONCE), *words(counter.to_bytes(8, "little"))]
-    start += [constant[2], *k[4:], constant[3]]
-    x = list(start)
-
-    def quarter(a, b, c, d):
-        for to, one, other, by in ((b, a, d, 7), (c, b, a, 9), (d, c, b, 13), (a, d, c, 18)):
-            sum_ = (x[one] + x[other]) & 0xFFFFFFFF
-            x[to] ^= (sum_ << by | sum_ >> 32 - by) & 0xFFFFFFFF
-
-    for _ in range(10):
-        for column in range(4):
-            quarter(*(5 * column % 16 + 4 * row & 15 for row in range(4)))
-        for row in range(4):
-            quarter(*(4 * row + (row + step) % 4 for step in range(4)))
-    return b"".join(((a + b) & 0xFFFFFFFF).to_bytes(4, "little") for a, b in zip(x, start))
-
-
-def stream(algorithm, key):
-    """What covers and uncovers values, one behind the other."""
-    if algorithm == CHACHA20:
-        hashed = hashlib.sha512(key).digest()
-        return Cipher(algorithms.ChaCha20(hashed[:32], bytes(4) + hashed[32:44]), None).encryptor().update
-    hashed = hashlib.sha256(key).digest()
-    bytes_ = itertools.chain.from_iterable(salsa20_block(hashed, counter) for counter in itertools.count())
-    return lambda value: bytes(a ^ b for a, b in zip(value, bytes_))
-
-
 def protected(tree):
-    """The protected values of a document, in the order in which they are covered."""
-    return (element for element in tree.iter() if element.get("Protected") == "True")
+    """The protected values of a document, in the order in which they are covered: those of histories too."""
+    return [element for element in tree.iter() if element.get("Protected") == "True"]
 
 
-def uncovered(payload):
-    """A payload's document with its protected values in clear."""
-    tree = ElementTree.fromstring(payload.document)
-    cover = stream(payload.algorithm, payload.key)
-    for value in protected(tree):
-        value.text = cover(base64.b64decode(value.text or "")).decode()
+def uncovered(document, stream):
+    """A document with its protected values in clear."""
+    tree = ElementTree.fromstring(document)
+    values = protected(tree)
+    hidden = [base64.b64decode(value.text or "", validate=True) for value in values]
+    for value, clear in zip(values, stream(hidden), strict=True):
+        value.text = clear.decode()
     return tree
 
 
-def covered(tree, algorithm, key):
+def covered(tree, stream):
     """The text of a document whose protected values stand in clear."""
-    cover = stream(algorithm, key)
-    for value in protected(tree):
-        value.text = base64.b64encode(cover((value.text or "").encode())).decode()
+    values = protected(tree)
+    clear = [(value.text or "").encode() for value in values]
+    for value, hidden in zip(values, stream(clear), strict=True):
+        value.text = base64.b64encode(hidden).decode()
     return ElementTree.tostring(tree, encoding="UTF-8", xml_declaration=True)
 
 
@@ -113,14 +79,21 @@ def difference(ours, theirs, path=""):
     raise AssertionError(path)
 
 
+def strings_of(entry):
+    return {string.findtext("Key"): string.findtext("Value") or "" for string in entry.findall("String")}
+
+
 def entries(tree, attachments):
-    """The entries of an uncovered document, without histories, each with its path and its attachments' bytes."""
+    """The entries of an uncovered document, each with its path, all its strings, those of the entries in its history,
+    and its attachments' bytes.
+    """
     found = []
 
     def group(element, path):
         for entry in element.findall("Entry"):
-            strings = {string.findtext("Key"): string.findtext("Value") or "" for string in entry.findall("String")}
+            strings = strings_of(entry)
             read = {field: strings.get(name, "") for field, name in FIELDS.items()}
+            read |= {"strings": strings, "history": [strings_of(old) for old in entry.findall("History/Entry")]}
             binaries = {one.findtext("Key"): int(one.find("Value").get("Ref")) for one in entry.findall("Binary")}
             read["attachments"] = {name: attachments[number] for name, number in binaries.items()}
             read["path"] = f"{path}/{read['title']}"
@@ -172,25 +145,40 @@ def add_group(parent, name):
     return group
 
 
-def add_entry(group, given, attachments):
-    """An entry with its strings, the password to be covered; its attachments go behind those that there are."""
-    entry = add(group, "Entry")
+def add_strings(parent, strings, **attributes):
+    for name, value in strings.items():
+        string = add(parent, "String")
+        add(string, "Key", name)
+        add(string, "Value", value, **attributes)
+
+
+def add_head(parent, given, password):
+    """An entry with its strings; the password and the hidden ones are to be covered."""
+    entry = add(parent, "Entry")
     add(entry, "UUID", base64.b64encode(hashlib.md5(given["title"].encode()).digest()).decode())
     add_times(entry)
-    for field, name in FIELDS.items():
-        string = add(entry, "String")
-        add(string, "Key", name)
-        add(string, "Value", given[field], **({"Protected": "True"} if field == "password" else {}))
+    add_strings(entry, {name: given[field] for field, name in FIELDS.items() if field != "password"})
+    add_strings(entry, {"Password": password} | given.get("hidden", {}), Protected="True")
+    add_all(add(entry, "AutoType"), {"Enabled": "True", "DataTransferObfuscation": "0"})
+    return entry
+
+
+def add_entry(group, given, attachments):
+    """An entry, with its former password in a history; its attachments go behind those that there are."""
+    entry = add_head(group, given, given["password"])
     for name, content in given["attachments"].items():
         binary = add(entry, "Binary")
         add(binary, "Key", name)
         add(binary, "Value", Ref=str(len(attachments)))
         attachments.append(content)
-    add_all(add(entry, "AutoType"), {"Enabled": "True", "DataTransferObfuscation": "0"})
+    if "former" in given:
+        add_head(add(entry, "History"), given, given["former"])
 
 
-def document(algorithm, key, data, given):
-    """A document of custom data and entries, and the attachments that it refers to. An entry has a group's path."""
+def document(data, given):
+    """An uncovered document of custom data and entries, and the attachments that it refers to. An entry has a group's
+    path.
+    """
     file, attachments = ElementTree.Element("KeePassFile"), []
     add_meta(file, data)
     root = add_group(add(file, "Root"), "Root")
@@ -201,4 +189,4 @@ def document(algorithm, key, data, given):
             if path[:depth] not in groups:
                 groups[path[:depth]] = add_group(groups[path[: depth - 1]], path[depth - 1])
         add_entry(groups[path], entry, attachments)
-    return covered(file, algorithm, key), attachments
+    return file, attachments

@@ -59,7 +59,7 @@ class Form:
         return random.Random(f"{self.name} {what}").randbytes(size)
 
     def entries(self, sizes):
-        """Three entries, in groups, with an attachment of each size."""
+        """Three entries, in groups, with an attachment of each size; the first has a history and a hidden string."""
         groups = ([], ["Manuals & tools <1>"], ["Manuals & tools <1>", "Inner ä"])
         passwords = (f"pässwörd-€-{self.name}", "", "]]> & <password>")
         made = []
@@ -67,6 +67,7 @@ class Form:
             given = {"group": group, "title": f"Entry {at}", "username": f"user {at}", "password": password}
             attachments = {f"file{size}.bin": self.bytes_of(size, size) for size in sizes[at - 1 :: 3]}
             made.append(given | {"url": f"https://example.org/{at}", "notes": "two\nlines", "attachments": attachments})
+        made[0] |= {"former": f"förmer-{self.name}", "hidden": {"PIN €": "0000 ä"}}
         return made
 
 
@@ -112,7 +113,8 @@ def make_keepassxc(path, form, credentials):
     options = ["--username", "xc user", "--url", "https://example.org/xc", "--notes", "nöte", "--password-prompt"]
     change("add", "/XC gröup/XC entry", options=options, answers=[f"xc-secret-€-{form.name}"])
     change("attachment-import", "/XC gröup/XC entry", "content.bin", content)
-    change("edit", "/XC gröup/XC entry", options=["--username", "xc user again"])
+    options = ["--username", "xc user again", "--password-prompt"]
+    change("edit", "/XC gröup/XC entry", options=options, answers=[f"xc-öther-{form.name}"])
     if form.minor == 1:
         change("mv", "/Entry 1", "/XC gröup")
 
@@ -163,18 +165,23 @@ def attachment_fields(attachments):
     return b"".join(b"\x03" + dictionaries.sized(content) for content in contents)
 
 
+def payload_with(driver, algorithm, key, tree, attachments):
+    """A payload of an uncovered document, which the library covers, and of attachments."""
+    document = documents.covered(tree, library.stream_of(driver, algorithm, key))
+    fields = attachment_fields(attachments)
+    whole = driver.ask("inner_write", alg=algorithm, key=key, run=fields, data=document)["payload"]
+    payload = library.parsed(driver, bytes.fromhex(whole))
+    expected = library.Payload(payload.whole, algorithm, key, attachments, document)
+    exchange.same("the payload as it is read", payload, expected)
+    return payload
+
+
 def payload_of(driver, form, filling):
     """A payload with a document of ours and some attachments, one of which has `filling` bytes."""
     key, entries = form.bytes_of("inner key", 64), form.entries((33, 0, 1000))
     if filling is not None:
         entries[2]["attachments"]["filling.bin"] = form.bytes_of("filling", filling)
-    document, attachments = documents.document(form.algorithm, key, DATA, entries)
-    fields = attachment_fields(attachments)
-    whole = driver.ask("inner_write", alg=form.algorithm, key=key, run=fields, data=document)["payload"]
-    payload = library.parsed(driver, bytes.fromhex(whole))
-    expected = library.Payload(payload.whole, form.algorithm, key, attachments, document)
-    exchange.same("the payload as it is read", payload, expected)
-    return payload
+    return payload_with(driver, form.algorithm, key, *documents.document(DATA, entries))
 
 
 def header_of(form):

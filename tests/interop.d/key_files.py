@@ -20,7 +20,6 @@ import string
 from cryptography.hazmat.primitives.ciphers import Cipher, algorithms, modes
 
 import dictionaries
-import documents
 import exchange
 import forms
 import library
@@ -198,20 +197,19 @@ def agree(driver, path, case):
     opened = library.opened(driver, file, credentials)
     part = parts_of(case.key_file.content)[case.key_file.rule]
     same("the composite key", opened.composite, composite_of(credentials.password, part))
-    tree = documents.uncovered(opened.payload)
-    found = documents.entries(tree, opened.payload.attachments)
-    exchange.agree_keepassxc(path, credentials, tree, found)
-    taken = taken_by("File::KDBX", path, case)
-    exchange.agree_file_kdbx(path, taken, opened.payload, opened.custom, found)
+    vault = exchange.shown(driver, opened.payload)
+    checks = {"KeePassXC": (exchange.agree_keepassxc, path, credentials, vault)}
+    checks["File::KDBX"] = exchange.agree_file_kdbx, path, taken_by("File::KDBX", path, case), vault, opened.custom
     if peers.pykeepass_python() is not None:
-        exchange.agree_pykeepass(path, taken_by("pykeepass", path, case), opened.payload, tree)
+        checks["pykeepass"] = exchange.agree_pykeepass, path, taken_by("pykeepass", path, case), vault
+    by = exchange.at_once(checks)
     other = case.given("other.key", case.key_file.other)
     refused_here(driver, path, other)
     for program in programs():
         says(program, WRONG_KEY[program], path, other)
     apart = [program for program in programs() if (program, case.key_file.name) in DEPARTURES]
-    note = f"({case.key_file.rule}{''.join(f'; not by {program}' for program in apart)})"
-    return exchange.figures_of(opened.minor, opened.cipher, opened.blocks, file, found, note)
+    note = f"({case.key_file.rule}{''.join(f'; not so by {program}' for program in apart)})"
+    return exchange.figures_of(opened.minor, opened.cipher, opened.blocks, file, vault, by, note)
 
 
 def read(driver, path, case, producer, make):

@@ -1,5 +1,6 @@
 """The library of this repository for tests/interop, asked through tests/driver."""
 import dataclasses
+import functools
 import json
 import pathlib
 import subprocess
@@ -126,6 +127,39 @@ def parsed(driver, whole):
     return Payload(whole, inner["alg"], key, attachments, document)
 
 
+def by_positions(driver, algorithm, key, values):
+    """Values under the inner stream, each asked for by itself, with just the room that it needs: a value's position is
+    the sum of the lengths before it.
+    """
+    made, position = [], 0
+    for value in values:
+        answer = driver.ask("stream", alg=algorithm, key=key, position=position, data=value, lent=len(value))
+        made.append(bytes.fromhex(answer["bytes"]))
+        position += len(value)
+    return made
+
+
+def by_state(driver, algorithm, key, values):
+    """Values under the inner stream, by one state that is applied to each in turn."""
+    parts = driver.ask("streams", alg=algorithm, key=key, parts=[value.hex() for value in values])["parts"]
+    numbers = [part["no"] for part in parts]
+    assert numbers == [0] * len(values), f"streams: {numbers}"
+    assert not any("touched" in part for part in parts), "streams: touched"
+    return [bytes.fromhex(part["bytes"]) for part in parts]
+
+
+def streamed(driver, algorithm, key, values):
+    """Values covered or uncovered, in their order in a document, in both ways, which have to agree."""
+    made = by_positions(driver, algorithm, key, values)
+    assert by_state(driver, algorithm, key, values) == made, "one state gives other bytes than the positions"
+    return made
+
+
+def stream_of(driver, algorithm, key):
+    """What covers and uncovers the values of a document, all at once."""
+    return functools.partial(streamed, driver, algorithm, key)
+
+
 def opened(driver, file, credentials):
     """A file opened whole and block by block, which have to agree. Refused where the header or the opening is."""
     header = driver.ask("header", data=file)
@@ -142,6 +176,12 @@ def opened(driver, file, credentials):
 def written(driver, form, t, payload):
     """The file of a payload: `form` has minor, cipher, seed, nonce, kdf and custom."""
     return bytes.fromhex(driver.ask("write", **form, T=t, data=payload)["file"])
+
+
+def changed_in_front(driver, file):
+    """A file with the first byte of its first data block changed."""
+    at = driver.ask("header", data=file)["length"] + BEHIND_HEADER + BLOCK_HEAD
+    return file[:at] + bytes([file[at] ^ 1]) + file[at + 1 :]
 
 
 def changed(file):

@@ -5,8 +5,12 @@ KeePassXC 2.7.4's command line makes new vaults of KDBX 3.1 alone, but it keeps 
 (Argon2's memory in whole KiB), custom dictionary and lack of compression when it saves it: what it changes is written
 by it. It writes 4.1 where the document needs that, as an entry that was moved does, and else 4.0. It takes a salt of
 Argon2 of 8 to 32 bytes. File::KDBX 0.906 refuses any dictionary with an empty value, and asks Argon2 for as many bytes
-as the salt has: of vaults with Argon2 it opens those with a salt of 32 bytes alone. pykeepass 4.0.3 keeps the header of
-a vault, seeds included, when it saves it. What each makes of key files is in key_files.py.
+as the salt has: of vaults with Argon2 it opens those with a salt of 32 bytes alone. pykeepass 4.0.3 keeps both headers
+of a vault, seeds and inner key included, when it saves it; it takes an empty password for none, and so opens no vault
+that has one. What each makes of key files is in key_files.py.
+
+All three uncover protected values of both inner algorithms. KeePassXC covers them with ChaCha20, whatever was there
+before; File::KDBX with what it is told; pykeepass with what the inner header has.
 """
 import dataclasses
 import functools
@@ -16,6 +20,7 @@ import pathlib
 import shutil
 import subprocess
 import sys
+import tempfile
 
 PERL = pathlib.Path(__file__).resolve().parent / "file_kdbx.pl"
 PYKEEPASS = PERL.with_name("py_keepass.py")
@@ -63,6 +68,11 @@ def install():
 def pykeepass_python():
     """The python3 that has pykeepass, asked for once it is installed where it can be."""
     return python_with_pykeepass()
+
+
+def opens_pykeepass(credentials):
+    """Whether pykeepass is there and opens vaults with such credentials."""
+    return pykeepass_python() is not None and credentials.password != ""
 
 
 def versions():
@@ -119,12 +129,18 @@ def exported(path, credentials):
     return keepassxc("export", path, credentials, options=["--format", "xml"])
 
 
+def shown(path, credentials, entry, name):
+    """A string of an entry, as KeePassXC shows it: in clear where it is protected, and with a line feed behind."""
+    text = keepassxc("show", path, credentials, entry, options=["--show-protected", "--attributes", name])
+    return text.decode().removesuffix("\n")
+
+
 def attachment(path, credentials, entry, name):
     """An attachment's bytes, as KeePassXC exports them: to a file, since --stdout takes them for text."""
-    copy = path.with_suffix(".attachment")
-    copy.unlink(missing_ok=True)
-    keepassxc("attachment-export", path, credentials, entry, name, copy)
-    return copy.read_bytes()
+    with tempfile.TemporaryDirectory() as folder:
+        copy = pathlib.Path(folder) / "attachment"
+        keepassxc("attachment-export", path, credentials, entry, name, copy)
+        return copy.read_bytes()
 
 
 def hexadecimal(value):

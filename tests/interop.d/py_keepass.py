@@ -2,7 +2,8 @@
 hexadecimal, and so is a password; an absent password or key file (a path) is null. Run by a Python that has pykeepass.
 
     py_keepass.py make    path, password, key_file, before, entry    gives a vault, whose password is `before`, these
-                                                                     credentials and an entry
+                                                                     credentials and an entry, which is in its own
+                                                                     history too
     py_keepass.py read    path, password, key_file                   answers document, attachments
     py_keepass.py try     path, password, key_file                   answers nothing
 
@@ -34,6 +35,7 @@ def make(asked):
     entry = vault.add_entry(vault.root_group, **{field: given[field] for field in FIELDS})
     for name, content in given["attachments"].items():
         entry.add_attachment(vault.add_binary(bytes.fromhex(content)), name)
+    entry.save_history()
     vault.save()
     return {}
 
