@@ -1,11 +1,13 @@
-"""The inner stream for the scripts: Salsa20 by libsodium, ChaCha20 by the Python package cryptography, which is OpenSSL, the
-hashes by hashlib; and document 02's refusals, told by hand."""
+"""The inner stream for the scripts: Salsa20 by libsodium, ChaCha20 by the Python package cryptography, which is OpenSSL,
+the hashes by hashlib; and document 02's refusals, told by hand.
+"""
 import ctypes
 import hashlib
 
 from cryptography.hazmat.primitives.ciphers import Cipher, algorithms
 
 SODIUM = ctypes.CDLL("libsodium.so.23")
+SALSA20_NONCE = bytes.fromhex("E830094B97205D2A")
 LIMIT = 4_194_304
 
 
@@ -16,7 +18,7 @@ def salsa20(key, position, text):
         out,
         blocks,
         ctypes.c_ulonglong(len(blocks)),
-        bytes.fromhex("E830094B97205D2A"),
+        SALSA20_NONCE,
         ctypes.c_uint64(position // 64),
         hashlib.sha256(key).digest(),
     )

@@ -3,8 +3,8 @@
 
     tools/vectors_inner_stream.py > crates/vectors_inner_stream/stdout
 
-inner_streams.py computes the streams. The stretches, positions and rows are those of crates/vectors_inner_stream/src, told
-anew here.
+inner_streams.py computes the streams. The stretches, positions and rows are those of crates/vectors_inner_stream/src,
+told anew here.
 """
 from inner_streams import LIMIT, STREAMS, number
 from messages import pattern
