@@ -1,4 +1,4 @@
-"""The inner stream for the scripts: Salsa20 by libsodium, ChaCha20 by the Python package cryptography, which is OpenSSL,
+"""The inner stream for the scripts: Salsa20 by libsodium, ChaCha20 by the Python package cryptography (OpenSSL),
 the hashes by hashlib; and document 02's refusals, told by hand.
 """
 import ctypes
