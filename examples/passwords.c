@@ -12,6 +12,11 @@
 #include "vault.h"
 
 static const char protected[] = "Protected=\"True\">";
+static struct {
+    uint8_t stream[KDBX4_INNER_STREAM_STATE], value[KDBX4_STREAM_LIMIT];
+} shown;
+
+static void clear_shown(void) { clear(&shown, sizeof shown); }
 
 /* The end of the next mark of a protected value in the document; NULL behind the last. */
 static const uint8_t *next_value(const uint8_t *at, const uint8_t *end) {
@@ -44,15 +49,16 @@ static size_t decoded(const uint8_t *text, const uint8_t *end, uint8_t *out, siz
 int main(int words, char **word) {
     if (words != 3) return fputs("usage: passwords VAULT PASSWORD\n", stderr), 2;
     static uint8_t covered[KDBX4_STREAM_LIMIT];
+    atexit(clear_shown);
     kdbx4_inner_figures inner;
     size_t length = open_vault(word[1], word[2], &inner), count;
     const uint8_t *end = payload + length, *value = payload + inner.document;
     check("inner key", kdbx4_inner_stream_start((uint32_t)inner.algorithm, payload + inner.key.start, inner.key.length,
-                                                secret.stream));
+                                                shown.stream));
     while ((value = next_value(value, end))) {
         size_t n = decoded(value, end, covered, sizeof covered);
-        check("value", kdbx4_inner_stream_apply(secret.stream, covered, n, secret.value, sizeof secret.value, &count));
-        fwrite(secret.value, 1, count, stdout);
+        check("value", kdbx4_inner_stream_apply(shown.stream, covered, n, shown.value, sizeof shown.value, &count));
+        fwrite(shown.value, 1, count, stdout);
         putchar('\n');
     }
     leave(fflush(stdout) == 0 ? 0 : 2);

@@ -17,7 +17,6 @@ static uint8_t file[KDBX4_FILE_LIMIT + 1], payload[KDBX4_FILE_LIMIT];
 static uint64_t argon2_words[KDBX4_ARGON2_WORDS(67108864, 1)];
 static struct {
     uint8_t composite[32], t[32], halves[32], kdf[KDBX4_AES_KDF_STATE], opener[KDBX4_OPENER_STATE];
-    uint8_t stream[KDBX4_INNER_STREAM_STATE], value[KDBX4_STREAM_LIMIT];
 } secret;
 
 /* Clears memory, through a pointer that the compiler may not leave out. */
