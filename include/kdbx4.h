@@ -18,9 +18,10 @@
 #include <stddef.h>
 #include <stdint.h>
 
-/* Limits: a file, a payload, a password, a key file; a message of a hash or tag; the rounds of AES-KDF. */
-#define KDBX4_FILE_LIMIT 4194304
-#define KDBX4_MESSAGE_LIMIT 8388608
+/* Limits: a file or a payload; a password or a key file; a message of a hash or tag; the rounds of AES-KDF. */
+#define KDBX4_FILE_LIMIT 16777216
+#define KDBX4_CREDENTIAL_LIMIT 4194304
+#define KDBX4_MESSAGE_LIMIT 33554432
 #define KDBX4_ROUNDS_LIMIT 4000000
 
 /* The key derivation functions, as a header's figures and the functions below number them. */
@@ -64,8 +65,8 @@ void kdbx4_salsa20(const uint8_t key[32], const uint8_t nonce[8], uint64_t at, u
 
 /* The composite key of a password, a key file or both, or a pre-hash. A credential is given where its flag is not 0; an
  * empty password is a credential. A key file of 32 bytes is taken as it stands, one of exactly 64 hexadecimal digits is
- * decoded, any other is hashed. 1: a password or key file over KDBX4_FILE_LIMIT; then 18: no credential, a pre-hash that
- * is not 32 bytes long, or one beside another credential. */
+ * decoded, any other is hashed. 1: a password or key file over KDBX4_CREDENTIAL_LIMIT; then 18: no credential, a pre-hash
+ * that is not 32 bytes long, or one beside another credential. */
 uint8_t kdbx4_composite(const uint8_t *password, size_t p, uint8_t has_password, const uint8_t *key_file, size_t k,
                         uint8_t has_key_file, const uint8_t *pre_hash, size_t h, uint8_t has_pre_hash, uint8_t out[32]);
 

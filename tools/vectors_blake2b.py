@@ -9,7 +9,7 @@ import hashlib
 
 from messages import pattern
 
-LIMIT = 8_388_608
+LIMIT = 33_554_432
 
 # RFC 7693, appendix A
 ABC = (
@@ -54,10 +54,10 @@ def main():
     for n in (3, 128, 200):
         for nn in range(1, 65):
             row("digest", n, 0, m[:n], nn)
-    row("over", LIMIT - 65_536, 1, m * 127)
-    row("limit", LIMIT, 0, m * 128)
-    row("past", LIMIT, 1, m * 128)
-    row("empty", LIMIT, 0, m * 128)
+    row("over", LIMIT - 65_536, 1, m * 511)
+    row("limit", LIMIT, 0, m * 512)
+    row("past", LIMIT, 1, m * 512)
+    row("empty", LIMIT, 0, m * 512)
     for lengths in (range(0, 201), range(990, 1_025)):
         for t in lengths:
             fill(t, m[:72])

@@ -9,7 +9,7 @@ import hmac
 
 from messages import pattern
 
-LIMIT = 8_388_608
+LIMIT = 33_554_432
 
 # RFC 4231, section 4: key, data, and HMAC-SHA-256 as published (case 5 is cut to 128 bits there).
 CASES = [
@@ -52,8 +52,8 @@ def main():
             row(f"key{k}", n, 0, result)
             row(f"key{k}-parts", n, 0, result)
     key, part = m[1_000:1_064], m[:65_536]
-    row("over", LIMIT - 65_536, 1, tag(key, part * 127))
-    full = tag(key, part * 128)
+    row("over", LIMIT - 65_536, 1, tag(key, part * 511))
+    full = tag(key, part * 512)
     row("limit", LIMIT, 0, full)
     row("past", LIMIT, 1, full)
     row("empty", LIMIT, 0, full)

@@ -22,12 +22,11 @@ from key_files import key_file_part
 from sample import PASSWORD, transformed
 from vaults import text_field
 from digests import must, sha256
-from vectors_vault import AES, Keys, blocks, field, flipped, front, header, number, open_whole, text_of
+from vectors_vault import AES, FILE_LIMIT, Keys, blocks, field, flipped, front, header, number, open_whole, text_of
 
 ROOT = pathlib.Path(__file__).parent.parent
 DATA = ROOT / "crates" / "open" / "data"
 PROGRAM_LIMIT = 65_536
-FILE_LIMIT = 4_194_304
 # The refusals that have a sentence, and the words of memory that crates/vectors_open lends.
 NUMBERS = (*range(1, 20), 22)
 LENT = 524_288

@@ -9,7 +9,7 @@ import hashlib
 
 from messages import pattern
 
-LIMIT = 8_388_608
+LIMIT = 33_554_432
 
 # NIST, "Examples with Intermediate Values" for SHA-256 and SHA-512, and "SHA-2 Additional": the digests as published.
 PUBLISHED = {
@@ -87,10 +87,10 @@ def main():
                     row(name, form, n, 0, m[:n])
     part = m[:65_536]
     for name in ("sha256", "sha512"):
-        row(name, "over", LIMIT - 65_536, 1, part * 127)
-        row(name, "limit", LIMIT, 0, part * 128)
-        row(name, "past", LIMIT, 1, part * 128)
-        row(name, "empty", LIMIT, 0, part * 128)
+        row(name, "over", LIMIT - 65_536, 1, part * 511)
+        row(name, "limit", LIMIT, 0, part * 512)
+        row(name, "past", LIMIT, 1, part * 512)
+        row(name, "empty", LIMIT, 0, part * 512)
 
 
 main()

@@ -6,7 +6,8 @@ script, and needs only crates/vectors_vault/stdin and stdout, which it writes. A
 headers (header_model.py), and from a whole opener and a plain opener told here from document 01, with Python's hashlib
 and hmac and the ciphers of the package cryptography, which is OpenSSL. What it opens of the vaults is compared with the
 manifest's block sizes, payload lengths and hashes; the numbers of made and damaged vaults are told beside each, by
-hand, and compared with what the openers say.
+hand, and compared with what the openers say. No file stands at the limit or over it: the program's stack does not hold
+one, and tests/differential runs these.
 """
 import hmac
 import json
@@ -18,14 +19,18 @@ from digests import must, sha256, sha512
 from header_model import (
     AES, AES_KDF, ARGON2D, CHACHA20, END, SIGNATURES, TWOFISH, Refused, int32, need, number, read_header
 )
+from messages import pattern
 from vaults import text_field, vaults
 
-FILE_LIMIT = 4_194_304
+FILE_LIMIT = 16_777_216
 TABLE_LIMIT = 1_000_000
 # The table has no room for all vaults: of two of KeePass 2 with Argon2 one is left out, and those that 22 refuses
 # (vectors_open has them).
 LEFT_OUT = "kp2-v40-chacha-argon2id-pwkf"
 OUTPUT = 65_536
+# What is lent for a large file, and where the writer cuts.
+LARGE_OUTPUT = 1_050_000
+CUT = 1_048_576
 
 
 def tag_of(base, i, *parts):
@@ -182,6 +187,24 @@ class Rows(list):
         self.row("after", name, 0, 19, sha256(state, b"\xee" * OUTPUT))
         return no or last, handed
 
+    def large(self, name, f, t):
+        """The rows of a large file; the number of its whole opening, its payload, and all bytes handed over."""
+        def shown(kind, no, handed):
+            handed = handed or b""
+            self.row(kind, name, len(handed), no, sha256(handed))
+            return handed
+
+        no, payload = answer(open_whole, f, t, LARGE_OUTPUT)
+        payload = shown("whole", no, payload)
+        shown("less", *answer(open_whole, f, t, max(len(payload) - 1, 0)))
+        opener = Plain(*begin(f, t))
+        self.row("start", name, opener.at, 0, opener.keys.base)
+        handed = b""
+        while opener.phase == OPEN:
+            handed += shown("step", *opener.step(f, LARGE_OUTPUT))
+        must(opener.phase == ENDED, name)
+        return no, payload, handed
+
 
 class Cases:
     def __init__(self):
@@ -200,12 +223,18 @@ class Cases:
         must(handed == payload or no or steps_expected, name)
         return payload
 
-    def limits(self):
-        """What the program adds behind a line whose steps are given more than its file."""
-        t = bytes.fromhex(self.table[-1].split()[1][1:])
-        for name, expected, n in (("longest", 3, FILE_LIMIT), ("over", 1, FILE_LIMIT + 1)):
-            must(self.rows.whole(name, bytes(n), t)[0] == expected, name)
-            must(self.rows.steps(name, bytes(n), t, bytes(n))[0] == expected, name)
+    def large(self, name, expected, f, t, pieces):
+        """A file by rule but for pieces, each a place and bytes; the number of its whole opening. The steps open it."""
+        by_rule = bytearray(pattern(len(f)))
+        for at, piece in pieces:
+            by_rule[at : at + len(piece)] = piece
+        must(by_rule == f and len(pieces) <= 5 and pieces[0][0] == 0, name)
+        must(name not in self.names, name)
+        self.names.add(name)
+        more = "".join(f" {at} {text_field(piece)}" for at, piece in pieces[1:])
+        self.table.append(f"{name} {text_field(t)} {text_field(pieces[0][1])} {len(f)}{more}")
+        no, payload, handed = self.rows.large(name, f, t)
+        must(no == expected and handed == open_whole(f, t, len(f)) and payload in (b"", handed), (name, no))
 
 
 # what is made here
@@ -448,8 +477,37 @@ def other_files(cases):
         n = len(front(keys))
         for given in (0, 35, n, n + 35, n + 36 + 16, n + 36 + 17, len(whole) - 1):
             cases.case(f"{name}-steps-given-{given}", 0, whole, T, given, 2)
-    cases.case("steps-over", 0, made(A, PAYLOAD[:40], 17), T, FILE_LIMIT + 1, 1)
-    cases.limits()
+
+
+def large_file(keys, n):
+    """A file with n bytes of ciphertext by rule, cut as the writer cuts, and its pieces that are not by rule."""
+    head, data = front(keys), []
+    at = len(head)
+    while n:
+        data.append((at + 36, min(n, CUT)))
+        at, n = at + 36 + data[-1][1], n - data[-1][1]
+    rule = pattern(at)
+    text = b"".join(rule[start : start + size] for start, size in data)
+    end = b""
+    if keys.cipher == AES:
+        # CBC from the last piece but one on: the last is eleven bytes and their padding.
+        mode = Cipher(algorithms.AES(keys.key), modes.CBC(text[-32:-16]))
+        end = mode.encryptor().update(padded(PAYLOAD[:11]))
+        text = text[:-16] + end
+    f = head + blocks(keys, text, [CUT])
+    pieces = [(0, f[: data[0][0]])] + [(start - 36, f[start - 36 : start]) for start, _ in data[1:]]
+    return f, pieces + [(at - len(end), f[at - len(end) :])]
+
+
+def large(cases):
+    """Files with full blocks, and one of 4,194,305 bytes, whose payload has no room at once."""
+    for name, keys, n, expected in (
+        ("aes-cut-at-1048576", A, CUT + 32, 0), ("chacha-cut-at-1048576", C, CUT + 1, 0),
+        ("chacha-file-of-4194305", C, 4_193_858, 17),
+    ):
+        f, pieces = large_file(keys, n)
+        must(expected == 0 or len(f) == 4_194_305, len(f))
+        cases.large(name, expected, f, T, pieces)
 
 
 def block_sizes(f, t):
@@ -477,7 +535,7 @@ def from_vaults(cases, folder):
 def main(folder):
     cases = Cases()
     from_vaults(cases, folder)
-    for part in (sound, damaged_headers, damaged_tags, damaged_blocks, damaged_padding, other_files):
+    for part in (sound, damaged_headers, damaged_tags, damaged_blocks, damaged_padding, other_files, large):
         part(cases)
     crate = pathlib.Path(__file__).parent.parent / "crates" / "vectors_vault"
     table = "".join(f"{line}\n" for line in cases.table)

@@ -1,10 +1,11 @@
 #!/usr/bin/env python3
 """Write what crates/vectors_writer reads and must print:   tools/vectors_writer.py
 
-The files come from a writer of its own, told here from documents 01 and 02 (Item 6): header, hash, tag and blocks by
-Python's hashlib and hmac, AES and ChaCha20 by the Python package cryptography, which is OpenSSL. The numbers come from
-its checks, made in document 01's order with 22 in 11's place, and each is compared with the number that its case is to
-give. The lengths that document 01 gives are compared too. No KDF is run: T is given.
+The files come from a writer of its own, told here from documents 01 and 02 (Items 6 and 7): header, hash, tag and
+blocks by Python's hashlib and hmac, AES and ChaCha20 by the Python package cryptography, which is OpenSSL. The numbers
+come from its checks, made in document 01's order with 22 in 11's place, and each is compared with the number that its
+case is to give. The lengths that the documents give are compared too. No KDF is run: T is given. No payload and no file
+stands at its limit or over it: the program's stack does not hold one, and tests/differential runs these.
 """
 import hmac
 import pathlib
@@ -16,9 +17,13 @@ from digests import sha256, sha512
 from messages import pattern
 from vaults import text_field
 
-LIMIT = 4_194_304
-BLOCK = 16_384
+LIMIT = 16_777_216
+BLOCK = 1_048_576
+# The program's table; its output, and the large one, which it has for a room that is more; its longest payload.
+TABLE = 262_144
 OUTPUT = 65_536
+LARGE_OUTPUT = 2_162_688
+LONGEST = 4_194_305
 AES = bytes.fromhex("31C1F2E6BF714350BE5805216AFC5AFF")
 CHACHA20 = bytes.fromhex("D6038A2B8B6F4CB5A524339A31DBB59A")
 AES_KDF = bytes.fromhex("C9D9F39A628A4460BF740D08C18A4FEA")
@@ -167,7 +172,7 @@ def line_of(name, minor, cipher, seed, nonce, kdf, salt, costs, custom, t, paylo
 class Cases:
     def __init__(self):
         self.table, self.rows = [], []
-        self.longest = pattern(LIMIT + 1)
+        self.longest = pattern(LONGEST)
 
     def row(self, name, form, figure, number, result=b""):
         self.rows.append(f"{name} {form} {figure} {number} {result.hex()}")
@@ -186,7 +191,8 @@ class Cases:
             given = r.args[0]
             self.row("written", name, 0, given)
         assert given == number, (name, given)
-        behind = b"\xee" * (OUTPUT - len(file))
+        output = OUTPUT if figures["room"] <= OUTPUT else LARGE_OUTPUT
+        behind = b"\xee" * (output - len(file))
         self.row("behind", name, len(behind), 0, sha256(behind))
         if file and name.startswith("file-"):
             self.row("file", name, len(file), 0, file)
@@ -256,13 +262,18 @@ OUTSIDE = {
     "memory-for-16-lanes": {"costs": (2, 131_071, 16)},
 }
 LENGTHS = (0, 1, 15, 16, 17, 16_383, 16_384, 16_385, 32_767, 32_768, 40_000)
-# Document 01, "Numbers to meet": the lengths of files without a custom dictionary.
+# About a full block and two, which AES fills with a byte of payload less.
+LARGE_LENGTHS = (BLOCK - 1, BLOCK, BLOCK + 1, 2 * BLOCK - 1, 2 * BLOCK, 2 * BLOCK + 1)
+# Document 01, "Numbers to meet", and document 02, Item 7: the lengths of files without a custom dictionary. The last
+# two are counted by hand: 271 or 267 bytes in front, and 36 for each block.
 GIVEN = {
     ("aes", 0): 359,
     ("chacha20", 0): 303,
     ("chacha20", 1): 340,
-    ("aes", 16_384): 16_779,
+    ("aes", 16_384): 16_743,
     ("chacha20", 16_384): 16_723,
+    ("aes", 1_048_576): 1_048_971,
+    ("chacha20", 1_048_576): 1_048_915,
 }
 
 # Custom dictionaries by name, with the number that each is to give.
@@ -290,7 +301,6 @@ WRONG = [
     (5, {"seed": counted(0, 31)}),
     (11, {"costs": 4_000_001}),
     (10, {"custom": b"\x00\x02\x00"}),
-    (1, {"payload": LIMIT + 1}),
     (17, {"room": 0}),
 ]
 # Further cases that are refused.
@@ -315,7 +325,6 @@ REFUSED = {
     "chacha20-nonce-of-11": (5, {"cipher": CHACHA20, "nonce": counted(0, 11)}),
     "rounds-2-to-32": (11, {"costs": 2**32}),
     "rounds-of-18-digits": (11, {"costs": 10**18 - 1}),
-    "payload-longest": (1, {"payload": LIMIT}),
     "repeated-no-room": (6, {"custom": DICTIONARIES["repeated"][1], "room": 0}),
     "rounds-repeated": (11, {"custom": DICTIONARIES["repeated"][1], "costs": 4_000_001}),
     "nonce-rounds": (5, {"nonce": counted(0, 15), "costs": 4_000_001}),
@@ -372,16 +381,10 @@ def refused(cases):
                 room = cases.case(f"{form}-whole-room", 0, figures)
                 cases.case(f"{form}-just-room", 0, figures | {"room": room})
                 cases.case(f"{form}-no-room", 17, figures | {"room": room - 1})
-    # The longest payloads whose files are within the limit: 257 blocks with the closing one, 36 bytes more each.
-    for cipher, figures in BOTH.items():
-        text = LIMIT - (271 if cipher == "aes" else 267) - 36 * 257
-        n = text // 16 * 16 - 1 if cipher == "aes" else text
-        cases.case(f"{cipher}-longest-file", 17, figures | {"payload": n})
-        cases.case(f"{cipher}-over-file", 1, figures | {"payload": n + 1, "room": 0})
 
 
 def refused_argon2(cases):
-    """22, before it 4, 9 and 5, behind it 10, 6, 1 and 17. A salt of another size than 32 is no 5."""
+    """22, before it 4, 9 and 5, behind it 10, 6 and 17. A salt of another size than 32 is no 5."""
     for cipher, figures in BOTH.items():
         for kdf, argon2 in ARGON2.items():
             sound = figures | argon2
@@ -390,11 +393,6 @@ def refused_argon2(cases):
             room = cases.case(f"{cipher}-{kdf}-whole-room", 0, sound)
             cases.case(f"{cipher}-{kdf}-just-room", 0, sound | {"room": room})
             cases.case(f"{cipher}-{kdf}-no-room", 17, sound | {"room": room - 1})
-            # As in `refused`, with a KDF dictionary that is 46 bytes longer.
-            text = LIMIT - (317 if cipher == "aes" else 313) - 36 * 257
-            n = text // 16 * 16 - 1 if cipher == "aes" else text
-            cases.case(f"{cipher}-{kdf}-longest-file", 17, sound | {"payload": n})
-            cases.case(f"{cipher}-{kdf}-over-file", 1, sound | {"payload": n + 1, "room": 0})
     for kdf, argon2 in ARGON2.items():
         sound = SOUND | argon2
         for name in ("salt-7", "salt-65", "passes-0", "memory-for-2-lanes"):
@@ -418,6 +416,20 @@ def ties(cases):
         cases.case(f"all-from-{number}", number, together | wrong)
 
 
+def large(cases):
+    """Payloads about full blocks, with room and without; and one of which the program has no room for the file."""
+    for cipher, figures in BOTH.items():
+        sound = figures | {"room": LARGE_OUTPUT}
+        for n in LARGE_LENGTHS:
+            length = cases.case(f"{cipher}-{n}", 0, sound | {"payload": n})
+            assert length == GIVEN.get((cipher, n), length), (cipher, n)
+        sound |= {"payload": BLOCK, "custom": CUSTOM}
+        room = cases.case(f"{cipher}-{BLOCK}-custom", 0, sound)
+        cases.case(f"{cipher}-{BLOCK}-custom-just-room", 0, sound | {"room": room})
+        cases.case(f"{cipher}-{BLOCK}-custom-no-room", 17, sound | {"room": room - 1})
+        cases.case(f"{cipher}-{LONGEST}-no-room", 17, figures | {"payload": LONGEST, "room": LARGE_OUTPUT})
+
+
 def main():
     crate = pathlib.Path(__file__).parent.parent / "crates" / "vectors_writer"
     cases = Cases()
@@ -426,7 +438,10 @@ def main():
     refused(cases)
     refused_argon2(cases)
     ties(cases)
-    (crate / "stdin").write_text("".join(f"{line}\n" for line in cases.table))
+    large(cases)
+    table = "".join(f"{line}\n" for line in cases.table)
+    assert len(table) < TABLE, len(table)
+    (crate / "stdin").write_text(table)
     (crate / "stdout").write_text("".join(f"{line}\n" for line in cases.rows))
 
 

@@ -10,11 +10,11 @@ use lib.Dec.{leb}
 
 -- a file, read or written
 unfoldable pub fileLimit : ℕ
-fileLimit = 4_194_304
+fileLimit = 16_777_216
 
 -- a payload, read or written
 unfoldable pub payloadLimit : ℕ
-payloadLimit = 4_194_304
+payloadLimit = 16_777_216
 
 -- a password
 unfoldable pub passwordLimit : ℕ
@@ -26,7 +26,7 @@ keyFileLimit = 4_194_304
 
 -- one hash or tag message in all
 unfoldable pub messageLimit : ℕ
-messageLimit = 8_388_608
+messageLimit = 33_554_432
 
 -- rounds of the key transformation
 unfoldable pub roundsLimit : ℕ
@@ -38,7 +38,7 @@ streamLimit = 4_194_304
 
 -- ciphertext in a block that is written
 unfoldable pub writtenBlock : ℕ
-writtenBlock = 16_384
+writtenBlock = 1_048_576
 
 -- a PC program's input
 unfoldable pub programLimit : ℕ

@@ -6,21 +6,21 @@ ghost use lib.Dec.{leb};
 ghost use Rattle.refusals.specs.Limits as limits;
 
 // A file, read or written, in bytes.
-pub const FILE_LIMIT: usize = 4_194_304;
+pub const FILE_LIMIT: usize = 16_777_216;
 // A payload, read or written, in bytes.
-pub const PAYLOAD_LIMIT: usize = 4_194_304;
+pub const PAYLOAD_LIMIT: usize = 16_777_216;
 // A password, in bytes.
 pub const PASSWORD_LIMIT: usize = 4_194_304;
 // A key file, in bytes.
 pub const KEY_FILE_LIMIT: usize = 4_194_304;
 // One hash or tag message in all, in bytes.
-pub const MESSAGE_LIMIT: usize = 8_388_608;
+pub const MESSAGE_LIMIT: usize = 33_554_432;
 // Rounds of the key transformation.
 pub const ROUNDS_LIMIT: u64 = 4_000_000;
 // The inner stream, in bytes: its key, and where a stretch of it ends.
 pub const STREAM_LIMIT: u64 = 4_194_304;
 // Ciphertext in a block that is written, in bytes.
-pub const WRITTEN_BLOCK: usize = 16_384;
+pub const WRITTEN_BLOCK: usize = 1_048_576;
 // A PC program's input, in bytes.
 pub const PROGRAM_LIMIT: usize = 65_536;
 

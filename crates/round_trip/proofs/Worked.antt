@@ -71,9 +71,13 @@ file-1-chacha : plainLength ChaCha20 1 ≡ 340
 unfolding fileLength headerLength kdfLength nonceLength blocksLength textLength writtenBlock
 file-1-chacha = refl
 
-file-16384 : plainLength Aes256 16_384 ≡ 16_779
+file-16384 : plainLength Aes256 16_384 ≡ 16_743
 unfolding fileLength headerLength kdfLength nonceLength blocksLength textLength writtenBlock
 file-16384 = refl
+
+file-1048576 : plainLength Aes256 1_048_576 ≡ 1_048_971
+unfolding fileLength headerLength kdfLength nonceLength blocksLength textLength writtenBlock
+file-1048576 = refl
 
 file-16384-chacha : plainLength ChaCha20 16_384 ≡ 16_723
 unfolding fileLength headerLength kdfLength nonceLength blocksLength textLength writtenBlock
@@ -130,7 +134,7 @@ length-stream : (k : Keys) (b : List ℕ) → length (encryptionBy ChaCha20 k b)
 unfolding encryptionBy
 length-stream k b = length-apply _ 0 b
 
-block-is : writtenBlock ≡ 16_384
+block-is : writtenBlock ≡ 1_048_576
 unfolding writtenBlock
 block-is = refl
 
@@ -152,7 +156,11 @@ worked =
       two-blocks-aes = λ k h b e.
           let l = length-text k h b in
           two-blocks (k .base) (encryptionBy Aes256 k b) (omega (arith, block-is)) (omega (arith, block-is));
+      full-block-aes = λ k h b e.
+          let l = length-text k h b in
+          one-block (k .base) (encryptionBy Aes256 k b) (λ z. omega arith) (omega (arith, block-is));
       file-aes = λ g p t b e. length-plain Aes256 g p t b 16_384 e ∙ file-16384;
+      two-file-aes = λ g p t b e. length-plain Aes256 g p t b 1_048_576 e ∙ file-1048576;
       one-block-chacha = λ k b e.
           let l = length-stream k b in
           one-block (k .base) (encryptionBy ChaCha20 k b) (λ z. omega arith) (omega (arith, block-is));

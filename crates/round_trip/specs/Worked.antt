@@ -60,16 +60,22 @@ pub record WorkedNumbers : Type 0 where
   pub empty-chacha : (g : Figures) → Plain ChaCha20 g → (t : List ℕ) → length (fileBytes g ChaCha20 t []) ≡ 303
   pub one-chacha : (g : Figures) → Plain ChaCha20 g → (t b : List ℕ) → length b ≡ 1
       → length (fileBytes g ChaCha20 t b) ≡ 340
-  -- "AES payload 16,383: one data block; 16,384: two, file 16,779"
-  pub one-block-aes : (k : Keys) → length (k .nonce) ≡ 16 → (b : List ℕ) → length b ≡ 16_383
+  -- "AES payload 16,384 now makes one data block, file 16,743" (document 02, Item 7)
+  pub one-block-aes : (k : Keys) → length (k .nonce) ≡ 16 → (b : List ℕ) → length b ≡ 16_384
       → blocksOf (k .base) (encryptionBy Aes256 k b)
       ≡ blockBytes (k .base) 0 (encryptionBy Aes256 k b) ++ blockBytes (k .base) 1 []
-  pub two-blocks-aes : (k : Keys) → length (k .nonce) ≡ 16 → (b : List ℕ) → length b ≡ 16_384
+  pub file-aes : (g : Figures) → Plain Aes256 g → (t b : List ℕ) → length b ≡ 16_384
+      → length (fileBytes g Aes256 t b) ≡ 16_743
+  -- the written block, 1,048,576: one byte less still fits one, as many are two
+  pub full-block-aes : (k : Keys) → length (k .nonce) ≡ 16 → (b : List ℕ) → length b ≡ 1_048_575
+      → blocksOf (k .base) (encryptionBy Aes256 k b)
+      ≡ blockBytes (k .base) 0 (encryptionBy Aes256 k b) ++ blockBytes (k .base) 1 []
+  pub two-blocks-aes : (k : Keys) → length (k .nonce) ≡ 16 → (b : List ℕ) → length b ≡ 1_048_576
       → blocksOf (k .base) (encryptionBy Aes256 k b)
       ≡ blockBytes (k .base) 0 (take writtenBlock (encryptionBy Aes256 k b))
       ++ (blockBytes (k .base) 1 (drop writtenBlock (encryptionBy Aes256 k b)) ++ blockBytes (k .base) 2 [])
-  pub file-aes : (g : Figures) → Plain Aes256 g → (t b : List ℕ) → length b ≡ 16_384
-      → length (fileBytes g Aes256 t b) ≡ 16_779
+  pub two-file-aes : (g : Figures) → Plain Aes256 g → (t b : List ℕ) → length b ≡ 1_048_576
+      → length (fileBytes g Aes256 t b) ≡ 1_048_971
   -- "ChaCha20 16,384: one, file 16,723"
   pub one-block-chacha : (k : Keys) (b : List ℕ) → length b ≡ 16_384
       → blocksOf (k .base) (encryptionBy ChaCha20 k b)

@@ -5,21 +5,21 @@
 // password or composite key, salt, secret, associated data, passes, memory in bytes, lanes, words lent, and the tag's
 // length. Standard output has two rows for each: `function name length number tag` (the crate `vectors`), and `memory
 // name zeros kept`: how many lent words are zeros at the front, and how many at the end hold what they held before.
-// The rows of `too-long` are the cases at the limit of a message. tools/vectors_argon2.py writes both, with libargon2.
+// The rows of `long-message` stand behind those of the lines. tools/vectors_argon2.py writes both, with libargon2.
 ghost use mathlib.Core.Path.{_≡_};
 ghost use lib.ListN.{length};
 use libc::STDIN_FILENO;
 
 mod lent;
+mod long_message;
 mod runs;
-mod too_long;
 
 fn main() {
     let mut space = table();
     let n = io::read_full(STDIN_FILENO, &mut space);
     let mut memory = room();
     lines(&space[..n], &mut memory);
-    too_long::rows(b'a', &mut memory);
+    long_message::rows(b'a', &mut memory);
 }
 
 // Room for all lines.

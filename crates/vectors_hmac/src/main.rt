@@ -130,7 +130,7 @@ fn fed(t: Hmac, s: &[u8]) -> Keyed {
     t.feed(&s[..0]).next.feed(s)
 }
 
-// The limit of a message: 127 parts of 65,536 bytes; one byte more than the rest, the rest, one byte, and none.
+// The limit of a message: 511 parts of 65,536 bytes; one byte more than the rest, the rest, one byte, and none.
 fn limit(m: &[u8]) {
     let part = vectors::first(m, 65_536);
     let most = refusals::limits::MESSAGE_LIMIT;
@@ -141,11 +141,11 @@ fn limit(m: &[u8]) {
     tried(b"empty", most, c, vectors::first(m, 0));
 }
 
-// The state after 127 feeds of `part`.
+// The state after 511 feeds of `part`.
 fn filled(key: &[u8], part: &[u8]) -> Hmac {
     let mut t = Hmac::start(key).next;
     let mut i: usize = 0;
-    while i < 127 {
+    while i < 511 {
         let next = t.feed(part).next;
         t = next;
         i += 1;

@@ -5,7 +5,9 @@
 // the place of its content and SHA-256; `written`, with the length and SHA-256 of what is written of a payload's own
 // parts; `write`, with the length written and all bytes of an output that was EE. A refusal has the figure 0. Every
 // index from 0 to the count is asked for, so that the last is 8. The form is the vault's name or what is wrong.
-// Standard input has a line for each case, `read FORM payload` or `write FORM algorithm key run document room`.
+// Standard input has a line for each case, `read FORM payload` or `write FORM algorithm key run document room`. The
+// rows of `long`, of 4,194,305 bytes, stand behind those of the lines. A payload at its limit, 16,777,216 bytes, and
+// one over it do not fit the usual stack: tests/differential runs these over the static library.
 // tools/vectors_inner.py writes stdin and stdout, with readings and hashes of its own.
 use libc::STDIN_FILENO;
 use vectors::table::field;
@@ -17,7 +19,7 @@ fn main() {
     let mut space = vectors::million(0);
     let n = io::read_full(STDIN_FILENO, &mut space);
     lines(&space[..n]);
-    limits(0);
+    long(0);
 }
 
 // The rows of each line of a table.
@@ -39,19 +41,16 @@ fn case(line: &[u8]) {
     writing::line(line);
 }
 
-// The limit of a payload, of a byte repeated once more than that.
-fn limits(b: u8) {
-    let over = [b; 4_194_305];
-    limits_of(&over);
+// A long payload, of a byte repeated.
+fn long(b: u8) {
+    let mut payload = [b; 4_194_305];
+    long_rows(&mut payload);
 }
 
-// A payload that is one byte too long, and the longest one, read and written.
-fn limits_of(over: &[u8]) {
-    let most = refusals::limits::PAYLOAD_LIMIT;
-    reading::rows(b"longest", vectors::first(over, most));
-    reading::rows(b"over", over);
-    writing::row(b"longest", 2, b"", vectors::first(over, most - 19));
-    writing::row(b"over", 2, b"", vectors::first(over, most - 18));
-    writing::row(b"over-unlisted", 1, b"", over);
-    writing::row(b"over-broken-run", 2, vectors::first(over, 5), over);
+// The least header in front of a document of zeros: an algorithm, an empty key, the end. It is read; and so many bytes
+// are written as a document, to an output of none.
+fn long_rows(payload: &mut [u8]) {
+    slices::copy(payload, b"\x01\x04\x00\x00\x00\x03\x00\x00\x00\x02");
+    reading::rows(b"long", payload);
+    writing::row(b"long", 3, b"", payload);
 }

@@ -77,7 +77,7 @@ fn fed(h: Sha256, s: &[u8]) -> Fed {
     h.feed(&s[..0]).next.feed(s)
 }
 
-// The limit of a message: 127 parts of 65,536 bytes; one byte more than the rest, the rest, one byte, and none.
+// The limit of a message: 511 parts of 65,536 bytes; one byte more than the rest, the rest, one byte, and none.
 pub fn limit(m: &[u8]) {
     let part = vectors::first(m, 65_536);
     let most = refusals::limits::MESSAGE_LIMIT;
@@ -88,11 +88,11 @@ pub fn limit(m: &[u8]) {
     tried(b"empty", most, c, vectors::first(m, 0));
 }
 
-// The state after 127 feeds of `part`.
+// The state after 511 feeds of `part`.
 fn filled(part: &[u8]) -> Sha256 {
     let mut h = Sha256::start();
     let mut i: usize = 0;
-    while i < 127 {
+    while i < 511 {
         let next = h.feed(part).next;
         h = next;
         i += 1;

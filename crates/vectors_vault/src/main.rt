@@ -1,9 +1,9 @@
 // Vaults that other programs wrote, made ones and damaged ones, opened whole and block by block.
 //
 // Standard input has a line for each vault: its name, T, the file's bytes, and how many of them the steps are given,
-// all or fewer. Where that is more than there are, they are given zeros, one byte over the file's limit, and behind
-// this line's rows stand those of the `longest` file of zeros and of one `over` the limit. A row is `name form figure
-// number digits` (the crate `vectors`), the form a vault's name. Lent bytes are EE before each call.
+// all or fewer. A number that is more than there are is the length of a large file (crate::large), whose line goes on.
+// A row is `name form figure number digits` (the crate `vectors`), the form a vault's name. Lent bytes are EE before
+// each call, but for a large file.
 //   whole, just, less  opened with ample room, with the payload's length, with one byte less (0 where it has none): the
 //                      count, and SHA-256 of the bytes handed over
 //   output             after each of these three: the length lent, and SHA-256 of all 65,536 bytes of which it was the
@@ -13,10 +13,15 @@
 //                      each answered (crate::steps, `tell`); the lengths lent go by `room_of`
 //   handed             the bytes handed over by all steps: how many, the phase (0 open, 1 closed, 2 ended), SHA-256
 //   after              one step more: the count, and SHA-256 of the state behind it (crate::steps, `state_digest`)
+//   step               each step of a large file: the count, and SHA-256 of the bytes handed over; beside it such a
+//                      file has `whole`, `less` and `start`
+// A file at its limit, 16,777,216 bytes, and one over it do not fit the usual stack: tests/differential runs these over
+// the static library.
 // tools/vectors_vault.py writes stdin and stdout, by an opener of its own.
 use libc::STDIN_FILENO;
 use vectors::table::field;
 
+mod large;
 mod steps;
 mod whole;
 
@@ -43,26 +48,10 @@ fn case(line: &[u8]) {
     let f = vectors::first(&space, n);
     let t = vectors::table::array(field(line, 1));
     let given = vectors::table::number(field(line, 3)) as usize;
-    whole::rows(field(line, 0), f, t);
     if n < given {
-        limits(field(line, 0), f, t, 0);
+        large::rows(line, t, given, 0);
         return;
     }
+    whole::rows(field(line, 0), f, t);
     steps::rows(field(line, 0), f, t, vectors::first(f, given));
-}
-
-// The limit of a file, of a byte repeated once more than that.
-fn limits(name: &[u8], f: &[u8], t: [u8; 32], b: u8) {
-    let over = [b; 4_194_305];
-    limits_of(name, f, t, &over);
-}
-
-// The longest file, one byte more, and steps that are given that.
-fn limits_of(name: &[u8], f: &[u8], t: [u8; 32], over: &[u8]) {
-    let longest = vectors::first(over, refusals::limits::FILE_LIMIT);
-    steps::rows(name, f, t, over);
-    whole::rows(b"longest", longest, t);
-    steps::rows(b"longest", longest, t, longest);
-    whole::rows(b"over", over, t);
-    steps::rows(b"over", over, t, over);
 }

@@ -23,12 +23,7 @@ struct Run {
 
 // A start with a file, and steps that are given another, or the same.
 pub fn rows(name: &[u8], f: &[u8], t: [u8; 32], given: &[u8]) {
-    let s = vault::start(f, t);
-    let outcome = s.outcome;
-    let next = s.next;
-    let keys = next.keys;
-    let base = keys.base;
-    vectors::row(b"start", name, next.at, outcome.number(), &base);
+    let next = started(name, f, t);
     let r = Run {
         calls: 0,
         number: 0,
@@ -38,6 +33,17 @@ pub fn rows(name: &[u8], f: &[u8], t: [u8; 32], given: &[u8]) {
         next,
     };
     show(name, advance(r, given), given);
+}
+
+// The state of a start, and its row.
+pub fn started(name: &[u8], f: &[u8], t: [u8; 32]) -> Opener {
+    let s = vault::start(f, t);
+    let outcome = s.outcome;
+    let next = s.next;
+    let keys = next.keys;
+    let base = keys.base;
+    vectors::row(b"start", name, next.at, outcome.number(), &base);
+    next
 }
 
 // Steps until the opening is closed or ended, 4,000 at most.
@@ -53,7 +59,7 @@ fn advance(start: Run, f: &[u8]) -> Run {
 }
 
 // So many turns of an open state, else none.
-fn turns(o: Opener, n: usize) -> usize
+pub fn turns(o: Opener, n: usize) -> usize
     ensures { λ r. ⌜ r < n + 1 ⌝ }
 {
     let phase = o.phase;

@@ -30,7 +30,7 @@ fn opened(kind: &[u8], name: &[u8], f: &[u8], t: [u8; 32], room: usize) -> usize
 }
 
 // Opens a vault into the front of `out`.
-fn open_in(f: &[u8], t: [u8; 32], out: &mut [u8], room: usize) -> Written {
+pub fn open_in(f: &[u8], t: [u8; 32], out: &mut [u8], room: usize) -> Written {
     if room < out.len() {
         return vault::open(f, t, &mut out[..room]);
     }

@@ -63,7 +63,26 @@ fn write(
     nonce: &[u8],
     custom: &[u8],
 ) {
-    let mut out = output(0xEE);
+    if number(field(line, 13)) as usize <= 65_536 {
+        let mut out = output(0xEE);
+        write_to(line, payload, seed, salt, cipher, nonce, custom, &mut out);
+        return;
+    }
+    write_large(line, payload, seed, salt, cipher, nonce, custom, 0xEE);
+}
+
+// The same with a large output.
+fn write_large(
+    line: &[u8],
+    payload: &[u8],
+    seed: &[u8],
+    salt: &[u8],
+    cipher: &[u8],
+    nonce: &[u8],
+    custom: &[u8],
+    b: u8,
+) {
+    let mut out = [b; 2_162_688];
     write_to(line, payload, seed, salt, cipher, nonce, custom, &mut out);
 }
 
@@ -120,7 +139,7 @@ fn figures_of(line: &[u8]) -> Figures {
     }
 }
 
-// Room for any case's file.
+// Room for the file of any case but the large ones.
 fn output(b: u8) -> [u8; 65_536]
     ensures { λ r. ⌜ 65536 ≡ length r ⌝ }
 {

@@ -5,10 +5,10 @@ use Rattle.vectors_hmac.proofs.filled.Statement.{statement}
 use Rattle.vectors_hmac.proofs.filled.Tie as tie
 
 abbrev Inv-loop : tie.InvT-loop
-Inv-loop key part t₀ i₀ t i = i ≤ 127
+Inv-loop key part t₀ i₀ t i = i ≤ 511
 
 abbrev μ-loop : tie.MeasureT-loop
-μ-loop key part t₀ i₀ t i = 127 - i
+μ-loop key part t₀ i₀ t i = 511 - i
 
 pub filled-spec : {M : Type 1} → statement M
 filled-spec =

@@ -5,10 +5,10 @@ use Rattle.vectors_sha2.proofs.on_sha256.filled.Statement.{statement}
 use Rattle.vectors_sha2.proofs.on_sha256.filled.Tie as tie
 
 abbrev Inv-loop : tie.InvT-loop
-Inv-loop part h₀ i₀ h i = i ≤ 127
+Inv-loop part h₀ i₀ h i = i ≤ 511
 
 abbrev μ-loop : tie.MeasureT-loop
-μ-loop part h₀ i₀ h i = 127 - i
+μ-loop part h₀ i₀ h i = 511 - i
 
 pub filled-spec : {M : Type 1} → statement M
 filled-spec =
