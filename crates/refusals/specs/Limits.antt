@@ -1,5 +1,8 @@
 -- Document 01, "Numbers of the terminal": the most of each thing, in bytes but for the rounds. A limit is inclusive.
 -- Document 02, Item 1: "1 where the key's length or position plus length passes 4,194,304"          streamLimit
+-- Document 02, Item 7: "raise the one library's file and payload limits to 16,777,216 bytes, .. a hash message to
+--   33,554,432 and the written block to 1,048,576"                fileLimit, payloadLimit, messageLimit, writtenBlock
+--   "Passwords, key files and Item 1 keep 4,194,304"                       passwordLimit, keyFileLimit, streamLimit
 -- Document 02, Item 6: "S of 8 to 64 bytes, I 1 to 64, M 8,192 to 67,108,864, P 1 to 16, M at least 8,192 times P"
 --                                                                                                      argon2Fits
 -- Not here: the laws that proofs lean on (proofs, Laws.Limits).

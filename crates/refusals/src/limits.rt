@@ -1,5 +1,6 @@
-// The most that the terminal takes of each thing (document 01, "Numbers of the terminal"; document 02, Item 1: the inner
-// stream), and the bounds of Argon2's figures (document 02, Item 6). A limit is inclusive.
+// The most that the terminal takes of each thing (document 01, "Numbers of the terminal"; document 02, Item 1: the
+// inner stream; Item 7: file, payload, message and written block), and the bounds of Argon2's figures (Item 6). A limit
+// is inclusive.
 ghost use mathlib.Core.Path.{_≡_};
 ghost use Prim.Native.Nat.{_+_};
 ghost use lib.Dec.{leb};

@@ -1,3 +1,4 @@
 pub mod Laws
 pub mod Theorem
+pub mod LargerBlocks
 pub mod Worked

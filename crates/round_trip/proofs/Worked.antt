@@ -5,13 +5,14 @@
 use mathlib.Core.Path.{_≡_, refl, sym, ap, ap₂, _∙_}
 use mathlib.Core.Bool.{true}
 use mathlib.Core.List.{List, [], _++_}
-use Prim.Native.Nat.{ℕ, _+_, _-_, _*_, _/_, _≤_}
+use Prim.Native.Nat.{ℕ, _+_, _*_, _/_, _≤_, _<_}
 use native.Mathlib.Omega.{arith}
 use lib.ListN.{length, take, drop, length-drop, take-append-drop}
 use lib.Seq.{length-take-le}
 use Rattle.words.specs.Endian.{le}
 use Rattle.refusals.specs.declared.Refusal.the-variants.{TooManyRounds}
 use Rattle.refusals.specs.Limits.{writtenBlock}
+use Rattle.refusals.proofs.Laws.Limits.{block-pieces}
 use Rattle.ciphers.specs.Ciphers.{nonceLength}
 use Rattle.ciphers.specs.declared.Cipher.{Cipher}
 use Rattle.ciphers.specs.declared.Cipher.the-variants.{Aes256, ChaCha20}
@@ -32,8 +33,8 @@ use Rattle.block_stream.specs.Blocks.{blockBytes}
 use Rattle.opening.specs.declared.Keys.{Keys}
 use Rattle.opening.proofs.Laws.Payload.{length-encrypted}
 use Rattle.opening.proofs.Worked as steps
-use Rattle.writer.specs.Written.{Figures, encryptionBy, blocksOf, headerOf, fileBytes}
-use Rattle.writer.specs.Stretches.{textLength, blocksLength, fileLength, Sized}
+use Rattle.writer.specs.Written.{Figures, encryptionBy, blocksOf, headerOf, fileCut, fileBytes}
+use Rattle.writer.specs.Stretches.{textLength, blockCount, blocksLength, fileLength, Sized}
 use Rattle.writer.proofs.Laws.Blocks.{blocks-full, blocks-last}
 use Rattle.writer.proofs.Laws.Files.{length-file}
 use Rattle.round_trip.specs.Worked.{Plain, WorkedNumbers}
@@ -50,7 +51,7 @@ fileLength-rounds c rounds l m n = refl
 
 length-plain : (c : Cipher) (g : Figures) → Plain c g → (t b : List ℕ) (n : ℕ) → length b ≡ n
     → length (fileBytes g c t b) ≡ plainLength c n
-unfolding fileBytes headerOf
+unfolding fileCut headerOf
 length-plain c g p t b n e =
     let z : Sized c (g .seed) (g .nonce) (g .salt) =
     record { seed = p .seed-long; nonce = p .nonce-long; salt-le = omega (arith, p .kdf-seed-long) } in
@@ -60,27 +61,27 @@ length-plain c g p t b n e =
     ∙ fileLength-rounds c (p .rounds) 32 0 n
 
 file-0 : plainLength Aes256 0 ≡ 359
-unfolding fileLength headerLength kdfLength nonceLength blocksLength textLength writtenBlock
+unfolding fileLength headerLength kdfLength nonceLength blockCount blocksLength textLength writtenBlock
 file-0 = refl
 
 file-0-chacha : plainLength ChaCha20 0 ≡ 303
-unfolding fileLength headerLength kdfLength nonceLength blocksLength textLength writtenBlock
+unfolding fileLength headerLength kdfLength nonceLength blockCount blocksLength textLength writtenBlock
 file-0-chacha = refl
 
 file-1-chacha : plainLength ChaCha20 1 ≡ 340
-unfolding fileLength headerLength kdfLength nonceLength blocksLength textLength writtenBlock
+unfolding fileLength headerLength kdfLength nonceLength blockCount blocksLength textLength writtenBlock
 file-1-chacha = refl
 
 file-16384 : plainLength Aes256 16_384 ≡ 16_743
-unfolding fileLength headerLength kdfLength nonceLength blocksLength textLength writtenBlock
+unfolding fileLength headerLength kdfLength nonceLength blockCount blocksLength textLength writtenBlock
 file-16384 = refl
 
 file-1048576 : plainLength Aes256 1_048_576 ≡ 1_048_971
-unfolding fileLength headerLength kdfLength nonceLength blocksLength textLength writtenBlock
+unfolding fileLength headerLength kdfLength nonceLength blockCount blocksLength textLength writtenBlock
 file-1048576 = refl
 
 file-16384-chacha : plainLength ChaCha20 16_384 ≡ 16_723
-unfolding fileLength headerLength kdfLength nonceLength blocksLength textLength writtenBlock
+unfolding fileLength headerLength kdfLength nonceLength blockCount blocksLength textLength writtenBlock
 file-16384-chacha = refl
 
 -- Argon2's dictionaries
@@ -138,6 +139,14 @@ block-is : writtenBlock ≡ 1_048_576
 unfolding writtenBlock
 block-is = refl
 
+-- a payload that is less than a block
+one-aes : (k : Keys) → length (k .nonce) ≡ 16 → (b : List ℕ) → length b < writtenBlock
+    → blocksOf (k .base) (encryptionBy Aes256 k b)
+    ≡ blockBytes (k .base) 0 (encryptionBy Aes256 k b) ++ blockBytes (k .base) 1 []
+one-aes k h b l =
+    let n = length-text k h b in
+    one-block (k .base) (encryptionBy Aes256 k b) (λ z. omega arith) (omega (arith, block-pieces))
+
 -- THE TABLE
 pub worked : WorkedNumbers
 worked =
@@ -150,17 +159,14 @@ worked =
       empty-aes = λ g p t. length-plain Aes256 g p t [] 0 refl ∙ file-0;
       empty-chacha = λ g p t. length-plain ChaCha20 g p t [] 0 refl ∙ file-0-chacha;
       one-chacha = λ g p t b e. length-plain ChaCha20 g p t b 1 e ∙ file-1-chacha;
-      one-block-aes = λ k h b e.
-          let l = length-text k h b in
-          one-block (k .base) (encryptionBy Aes256 k b) (λ z. omega arith) (omega (arith, block-is));
+      one-block-aes = λ k h b e. one-aes k h b (omega (arith, block-is));
+      now-one-block-aes = λ k h b e. one-aes k h b (omega (arith, block-is));
+      file-aes = λ g p t b e. length-plain Aes256 g p t b 16_384 e ∙ file-16384;
+      full-block-aes = λ k h b e. one-aes k h b (omega (arith, block-is));
       two-blocks-aes = λ k h b e.
           let l = length-text k h b in
           two-blocks (k .base) (encryptionBy Aes256 k b) (omega (arith, block-is)) (omega (arith, block-is));
-      full-block-aes = λ k h b e.
-          let l = length-text k h b in
-          one-block (k .base) (encryptionBy Aes256 k b) (λ z. omega arith) (omega (arith, block-is));
-      file-aes = λ g p t b e. length-plain Aes256 g p t b 16_384 e ∙ file-16384;
-      two-file-aes = λ g p t b e. length-plain Aes256 g p t b 1_048_576 e ∙ file-1048576;
+      two-blocks-file-aes = λ g p t b e. length-plain Aes256 g p t b 1_048_576 e ∙ file-1048576;
       one-block-chacha = λ k b e.
           let l = length-stream k b in
           one-block (k .base) (encryptionBy ChaCha20 k b) (λ z. omega arith) (omega (arith, block-is));

@@ -1,5 +1,6 @@
 -- Document 01, "Numbers to meet": everything that is marked P, as one table with a field or two for each line.
 -- "document 01's worked sizes are AES-KDF's" (document 02, Item 6); those of Argon2's dictionaries stand beside them.
+-- Document 02, Item 7, puts one data block and a file of 16,743 bytes in the place of "16,384: two, file 16,779".
 -- Assumes nothing.
 use mathlib.Core.Path.{_≡_}
 use mathlib.Core.Bool.{true, false}
@@ -60,13 +61,16 @@ pub record WorkedNumbers : Type 0 where
   pub empty-chacha : (g : Figures) → Plain ChaCha20 g → (t : List ℕ) → length (fileBytes g ChaCha20 t []) ≡ 303
   pub one-chacha : (g : Figures) → Plain ChaCha20 g → (t b : List ℕ) → length b ≡ 1
       → length (fileBytes g ChaCha20 t b) ≡ 340
-  -- "AES payload 16,384 now makes one data block, file 16,743" (document 02, Item 7)
-  pub one-block-aes : (k : Keys) → length (k .nonce) ≡ 16 → (b : List ℕ) → length b ≡ 16_384
+  -- "AES payload 16,383: one data block"; document 02, Item 7: "AES payload 16,384 now makes one data block, file 16,743"
+  pub one-block-aes : (k : Keys) → length (k .nonce) ≡ 16 → (b : List ℕ) → length b ≡ 16_383
+      → blocksOf (k .base) (encryptionBy Aes256 k b)
+      ≡ blockBytes (k .base) 0 (encryptionBy Aes256 k b) ++ blockBytes (k .base) 1 []
+  pub now-one-block-aes : (k : Keys) → length (k .nonce) ≡ 16 → (b : List ℕ) → length b ≡ 16_384
       → blocksOf (k .base) (encryptionBy Aes256 k b)
       ≡ blockBytes (k .base) 0 (encryptionBy Aes256 k b) ++ blockBytes (k .base) 1 []
   pub file-aes : (g : Figures) → Plain Aes256 g → (t b : List ℕ) → length b ≡ 16_384
       → length (fileBytes g Aes256 t b) ≡ 16_743
-  -- the written block, 1,048,576: one byte less still fits one, as many are two
+  -- the written block is 1,048,576 (Item 7): AES payload 1,048,575: one data block; 1,048,576: two, file 1,048,971
   pub full-block-aes : (k : Keys) → length (k .nonce) ≡ 16 → (b : List ℕ) → length b ≡ 1_048_575
       → blocksOf (k .base) (encryptionBy Aes256 k b)
       ≡ blockBytes (k .base) 0 (encryptionBy Aes256 k b) ++ blockBytes (k .base) 1 []
@@ -74,7 +78,7 @@ pub record WorkedNumbers : Type 0 where
       → blocksOf (k .base) (encryptionBy Aes256 k b)
       ≡ blockBytes (k .base) 0 (take writtenBlock (encryptionBy Aes256 k b))
       ++ (blockBytes (k .base) 1 (drop writtenBlock (encryptionBy Aes256 k b)) ++ blockBytes (k .base) 2 [])
-  pub two-file-aes : (g : Figures) → Plain Aes256 g → (t b : List ℕ) → length b ≡ 1_048_576
+  pub two-blocks-file-aes : (g : Figures) → Plain Aes256 g → (t b : List ℕ) → length b ≡ 1_048_576
       → length (fileBytes g Aes256 t b) ≡ 1_048_971
   -- "ChaCha20 16,384: one, file 16,723"
   pub one-block-chacha : (k : Keys) (b : List ℕ) → length b ≡ 16_384

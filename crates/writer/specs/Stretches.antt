@@ -2,25 +2,23 @@
 --
 --   stretchBy, prevBy          a stretch of the text encrypted, and the piece that what follows is chained to
 --   textOf, textLength         what is encrypted of a payload: for AES-256 with its padding
---   blocksAt, blocksLength     the blocks from a number on, and how long they are
+--   blocksAt                   the blocks from a number on
+--   blockCount, blocksLength   how many blocks there are, and how long they are
 --   summed                     a header with its hash and tag
 --   fileLength, fileOf         how long the file is, and the file
 --   Sized                      what the header's checks say of seed, nonce and salt
---   settled, bytesOf           the answer for a file of some length, and the bytes written with it
+--   bytesOf                    the bytes written with an answer
 -- A stretch stands behind the ciphertext piece v (at first the nonce), its first byte at position p of the text.
 -- Not here: the file (Written).
 -- Assumes nothing.
 use mathlib.Core.Path.{_≡_}
-use mathlib.Core.Bool.{cond}
 use mathlib.Core.List.{List, [], _++_}
 use Prim.Native.Nat.{ℕ, _+_, _-_, _*_, _/_, _≤_}
-use lib.Dec.{leb, ltb}
 use lib.ListN.{length}
 use Rattle.slices.specs.Over.{over}
-use Rattle.refusals.specs.declared.Refusal.the-variants.{TooLong, NoRoom}
 use Rattle.refusals.specs.declared.Written.{Written}
 use Rattle.refusals.specs.declared.Written.the-variants.{Wrote, Refused}
-use Rattle.refusals.specs.Limits.{fileLimit, payloadLimit, writtenBlock}
+use Rattle.refusals.specs.Limits.{writtenBlock}
 use Rattle.cbc.specs.Sp80038a.{previous}
 use Rattle.aes_cbc.specs.Aes256Cbc as aes256Cbc
 use Rattle.pkcs7.specs.Pkcs7.{pad, paddingLength}
@@ -33,7 +31,7 @@ use Rattle.opening.specs.declared.Keys.{Keys}
 use Rattle.opening.specs.Decryption.{chaChaFrom}
 use Rattle.opening.specs.Steps.{padded}
 use Rattle.vault_keys.specs.VaultKeys.{keysWith, headerHash, headerTag}
-use Rattle.writer.specs.Written.{blocksFrom, fileWith}
+use Rattle.writer.specs.Written.{cut, blocksFrom, fileWith}
 
 unfoldable pub stretchBy : Cipher → Keys → List ℕ → ℕ → List ℕ → List ℕ
 stretchBy Aes256 k v p s = aes256Cbc.encrypt (k .«round_keys» .words) v s
@@ -56,15 +54,22 @@ textLength Aes256 n = n + paddingLength n
 textLength ChaCha20 n = n
 
 abbrev pub blocksAt : List ℕ → ℕ → List ℕ → List ℕ
-blocksAt base i t = blocksFrom (length t) base i t
+blocksAt base i t = blocksFrom base i (cut writtenBlock t)
 
 -- the blocks of the last bytes b of a payload
 abbrev pub lastBlocks : Keys → List ℕ → ℕ → ℕ → List ℕ → List ℕ
 lastBlocks k v i p b = blocksAt (k .base) i (stretchBy (k .cipher) k v p (textOf (k .cipher) b))
 
--- n bytes of ciphertext in blocks of 16,384 bytes, the last perhaps not full, and the closing block
+-- how many data blocks n bytes of ciphertext have, in blocks of z bytes, the last perhaps not full
+unfoldable pub blockCount : ℕ → ℕ → ℕ
+blockCount z n = (n + (z - 1)) / z
+
+-- .. and how long they are, with the closing block
+abbrev pub cutLength : ℕ → ℕ → ℕ
+cutLength z n = n + 36 * (blockCount z n + 1)
+
 unfoldable pub blocksLength : ℕ → ℕ
-blocksLength n = n + 36 * ((n + (writtenBlock - 1)) / writtenBlock + 1)
+blocksLength n = cutLength writtenBlock n
 
 -- the file of a seed or salt of l bytes, a custom dictionary of m and a payload of n
 unfoldable pub fileLength : Cipher → KdfFigures → ℕ → ℕ → ℕ → ℕ
@@ -77,20 +82,13 @@ summed base h = h ++ headerHash h ++ headerTag base h
 -- the file of figures, with T and the payload b
 abbrev pub fileOf : ℕ → Cipher → List ℕ → List ℕ → KdfFigures → List ℕ → List ℕ → List ℕ → List ℕ → List ℕ
 fileOf minor c seed nonce fig salt custom t b =
-    fileWith (headerBytes minor c seed nonce fig salt custom) c (keysWith c seed (padded nonce) t) b
+    fileWith writtenBlock (headerBytes minor c seed nonce fig salt custom) c (keysWith c seed (padded nonce) t) b
 
 -- master seed s and nonce n of the right sizes, the KDF's seed or salt no longer than any KDF takes
 pub record Sized (c : Cipher) (s n salt : List ℕ) : Type 0 where
   pub seed : length s ≡ 32
   pub nonce : length n ≡ nonceLength c
   pub salt-le : length salt ≤ 64
-
--- a payload of b bytes and its file of f bytes, n bytes lent
-unfoldable pub settled : ℕ → ℕ → ℕ → Written
-settled b f n =
-    cond (leb b payloadLimit)
-    (cond (leb f fileLimit) (cond (ltb n f) (Refused NoRoom) (Wrote f)) (Refused TooLong))
-    (Refused TooLong)
 
 unfoldable pub bytesOf : Written → List ℕ → List ℕ
 bytesOf (Refused r) f = []

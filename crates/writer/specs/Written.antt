@@ -1,18 +1,20 @@
--- The vault that is written: document 01, "File after the header"; document 02, Item 6.
+-- The vault that is written: document 01, "File after the header"; document 02, Items 6 and 7.
 --
 --   "The writer takes minor version, cipher, both seeds, nonce, rounds, custom dictionary .., T and payload";
 --   "the writer writes all three" KDFs, each with its own figures                                               Figures
 --   "Order: 4, 9, 5 (seeds, nonce), 11, 10 or 6, 1, 17"; Argon2's 22 in 11's place, "the writer's salt length
 --   included"                                                                                                   writing
---   "written block: 16,384 bytes of ciphertext", "all data blocks are full except perhaps the last",
+--   "all data blocks are full except perhaps the last"                                                          cutIn
 --   "A block of size 0 closes"                                                                                  blocksFrom
---   "Each block is written directly behind the bytes already laid down"                                         fileBytes
--- t is T. AES-256 in CBC mode over the padded payload (SP 800-38A, 6.2; RFC 5652, 6.3), ChaCha20 from counter 0.
+--   "Each block is written directly behind the bytes already laid down"                                         fileCut
+--   "raise the one library's file and payload limits .. and the written block" (document 02, Item 7)            sizes
+-- t is T. AES-256 in CBC mode over the padded payload (SP 800-38A, 6.2; RFC 5652, 6.3), ChaCha20 from counter 0. The
+-- answer and the file are said for any sizes: what the writer wrote with others is compared in crate round_trip.
 -- Not here: the header (crate header_writer), a block's bytes (crate block_stream).
 -- Assumes nothing.
 use mathlib.Core.Bool.{cond}
-use mathlib.Core.List.{List, [], _++_}
-use Prim.Native.Nat.{ℕ, zero, suc, _+_}
+use mathlib.Core.List.{List, [], _∷_, _++_}
+use Prim.Native.Nat.{ℕ, zero, suc}
 use lib.Dec.{eqb, leb, ltb}
 use lib.ListN.{length, take, drop}
 use Rattle.refusals.specs.declared.Refusal.the-variants.{TooLong, NoRoom}
@@ -61,50 +63,78 @@ unfoldable pub encryptionBy : Cipher → Keys → List ℕ → List ℕ
 encryptionBy Aes256 k b = aes256Cbc.encrypt (k .«round_keys» .words) (k .nonce) (pad b)
 encryptionBy ChaCha20 k b = chaChaFrom k 0 b
 
--- the ciphertext t in blocks from number i on, the closing block last; m counts down from the length of t, and never
--- ends it
-unfoldable pub blocksFrom : ℕ → List ℕ → ℕ → List ℕ → List ℕ
-blocksFrom zero base i t = blockBytes base i []
-blocksFrom (suc m) base i t =
-    cond (eqb (length t) 0) (blockBytes base i [])
-    (blockBytes base i (take writtenBlock t) ++ blocksFrom m base (suc i) (drop writtenBlock t))
+-- the ciphertext t in pieces of z bytes, all full except perhaps the last; m counts down from the length of t, and
+-- never ends it where z is positive
+unfoldable pub cutIn : ℕ → ℕ → List ℕ → List (List ℕ)
+cutIn z zero t = []
+cutIn z (suc m) t = cond (eqb (length t) 0) [] (take z t ∷ cutIn z m (drop z t))
 
+abbrev pub cut : ℕ → List ℕ → List (List ℕ)
+cut z t = cutIn z (length t) t
+
+-- a data block for each piece, numbered from i on, and the closing block
+unfoldable pub blocksFrom : List ℕ → ℕ → List (List ℕ) → List ℕ
+blocksFrom base i [] = blockBytes base i []
+blocksFrom base i (d ∷ ds) = blockBytes base i d ++ blocksFrom base (suc i) ds
+
+-- the ciphertext t in blocks of the size that is written
 unfoldable pub blocksOf : List ℕ → List ℕ → List ℕ
-blocksOf base t = blocksFrom (length t) base 0 t
+blocksOf base t = blocksFrom base 0 (cut writtenBlock t)
 
 -- the header of figures, with their cipher
 unfoldable pub headerOf : Figures → Cipher → List ℕ
 headerOf g c = headerBytes (g .minor) c (g .seed) (g .nonce) (g .kdf) (g .salt) (g .custom)
 
--- header, its hash, its tag, blocks
-unfoldable pub fileWith : List ℕ → Cipher → Keys → List ℕ → List ℕ
-fileWith h c k b = h ++ headerHash h ++ headerTag (k .base) h ++ blocksOf (k .base) (encryptionBy c k b)
+-- header, its hash, its tag, blocks of z bytes
+unfoldable pub fileWith : ℕ → List ℕ → Cipher → Keys → List ℕ → List ℕ
+fileWith z h c k b = h ++ headerHash h ++ headerTag (k .base) h ++ blocksFrom (k .base) 0 (cut z (encryptionBy c k b))
 
-unfoldable pub fileBytes : Figures → Cipher → List ℕ → List ℕ → List ℕ
-fileBytes g c t b = fileWith (headerOf g c) c (keysWith c (g .seed) (padded (g .nonce)) t) b
+unfoldable pub fileCut : ℕ → Figures → Cipher → List ℕ → List ℕ → List ℕ
+fileCut z g c t b = fileWith z (headerOf g c) c (keysWith c (g .seed) (padded (g .nonce)) t) b
 
--- a file that may be written: payload or file over its limit (1), room (17)
-unfoldable pub writingBy : Checked → Figures → List ℕ → List ℕ → ℕ → Written
-writingBy (Refused r) g t b n = written.Refused r
-writingBy (As c) g t b n =
-    cond (leb (length b) payloadLimit)
-    (cond (leb (length (fileBytes g c t b)) fileLimit)
-    (cond (ltb n (length (fileBytes g c t b))) (written.Refused NoRoom) (written.Wrote (length (fileBytes g c t b))))
-    (written.Refused TooLong))
+-- the file that is written
+abbrev pub fileBytes : Figures → Cipher → List ℕ → List ℕ → List ℕ
+fileBytes g c t b = fileCut writtenBlock g c t b
+
+-- what a writer keeps to: the most bytes of a payload and of a file, and the ciphertext in a block
+pub record Sizes : Type 0 where
+  pub payload : ℕ
+  pub file : ℕ
+  pub block : ℕ
+
+abbrev pub sizes : Sizes
+sizes = record { payload = payloadLimit; file = fileLimit; block = writtenBlock }
+
+-- the answer for a payload of b bytes and its file of f bytes, n bytes lent: payload or file over its limit (1), room
+-- (17)
+unfoldable pub settled : Sizes → ℕ → ℕ → ℕ → Written
+settled s b f n =
+    cond (leb b (s .payload))
+    (cond (leb f (s .file)) (cond (ltb n f) (written.Refused NoRoom) (written.Wrote f)) (written.Refused TooLong))
     (written.Refused TooLong)
+
+unfoldable pub writingBy : Sizes → Checked → Figures → List ℕ → List ℕ → ℕ → Written
+writingBy s (Refused r) g t b n = written.Refused r
+writingBy s (As c) g t b n = settled s (length b) (length (fileCut (s .block) g c t b)) n
 
 unfoldable pub checkedOf : Figures → Checked
 checkedOf g = checked (g .minor) (g .cipher) (g .seed) (g .nonce) (g .kdf) (g .salt) (g .custom)
 
 -- the writer's answer with n bytes lent
-unfoldable pub writing : Figures → List ℕ → List ℕ → ℕ → Written
-writing g t b n = writingBy (checkedOf g) g t b n
+unfoldable pub writingWith : Sizes → Figures → List ℕ → List ℕ → ℕ → Written
+writingWith s g t b n = writingBy s (checkedOf g) g t b n
+
+abbrev pub writing : Figures → List ℕ → List ℕ → ℕ → Written
+writing g t b n = writingWith sizes g t b n
 
 -- the bytes that it writes: none where it is refused
-unfoldable pub shownBy : Checked → Written → Figures → List ℕ → List ℕ → List ℕ
-shownBy (Refused r) w g t b = []
-shownBy (As c) (written.Refused r) g t b = []
-shownBy (As c) (written.Wrote n) g t b = fileBytes g c t b
+unfoldable pub shownBy : ℕ → Checked → Written → Figures → List ℕ → List ℕ → List ℕ
+shownBy z (Refused r) w g t b = []
+shownBy z (As c) (written.Refused r) g t b = []
+shownBy z (As c) (written.Wrote n) g t b = fileCut z g c t b
 
-unfoldable pub shown : Figures → List ℕ → List ℕ → ℕ → List ℕ
-shown g t b n = shownBy (checkedOf g) (writing g t b n) g t b
+unfoldable pub shownWith : Sizes → Figures → List ℕ → List ℕ → ℕ → List ℕ
+shownWith s g t b n = shownBy (s .block) (checkedOf g) (writingWith s g t b n) g t b
+
+abbrev pub shown : Figures → List ℕ → List ℕ → ℕ → List ℕ
+shown g t b n = shownWith sizes g t b n

@@ -143,7 +143,7 @@ fn write_checked(
     out: &mut [u8],
 ) -> Written
     requires { ⌜ stretches.Sized c (now seed) (now nonce) (now salt) ⌝ }
-    ensures { λ r. ⌜ r ≡ stretches.settled (length (now (payload .entry))) (length (stretches.fileOf minor c (now (seed .entry)) (now (nonce .entry)) figures (now (salt .entry)) (now (custom .entry)) t (now (payload .entry)))) (length (now (out .entry))) ⌝ }
+    ensures { λ r. ⌜ r ≡ kdbx4.settled kdbx4.sizes (length (now (payload .entry))) (length (stretches.fileOf minor c (now (seed .entry)) (now (nonce .entry)) figures (now (salt .entry)) (now (custom .entry)) t (now (payload .entry)))) (length (now (out .entry))) ⌝ }
     ensures { λ r. ⌜ now (out .exit) ≡ over (stretches.bytesOf r (stretches.fileOf minor c (now (seed .entry)) (now (nonce .entry)) figures (now (salt .entry)) (now (custom .entry)) t (now (payload .entry)))) (now (out .entry)) ⌝ }
 {
     let n = payload.len();

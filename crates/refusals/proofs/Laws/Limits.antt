@@ -5,6 +5,7 @@
 --   message-file, message-password, message-key-file, message-stream-key, message-blocks
 --   file-size, payload-size, rounds-word, stream-word, stream-some
 --   block-pieces, block-positive, block-size, block-file
+--   payload-raised, file-raised, block-raised
 --   Argon2Bounds, argon2Fits-bounds
 -- Assumes nothing.
 use mathlib.Core.Path.{_≡_, refl}
@@ -80,6 +81,19 @@ block-size = omega arith
 pub block-file : writtenBlock ≤ fileLimit
 unfolding writtenBlock fileLimit
 block-file = omega arith
+
+-- no less than document 01 has them, and the block at least twice as much (document 02, Item 7)
+pub payload-raised : 4_194_304 ≤ payloadLimit
+unfolding payloadLimit
+payload-raised = omega arith
+
+pub file-raised : 4_194_304 ≤ fileLimit
+unfolding fileLimit
+file-raised = omega arith
+
+pub block-raised : 16_384 + 16_384 ≤ writtenBlock
+unfolding writtenBlock
+block-raised = omega arith
 
 -- what Argon2's figures keep to, where they fit
 pub record Argon2Bounds (salt passes memory lanes : ℕ) : Type 0 where

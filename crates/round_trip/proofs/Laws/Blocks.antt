@@ -4,7 +4,7 @@
 -- Assumes nothing.
 use mathlib.Core.Path.{_≡_, refl, sym, ap, _∙_}
 use mathlib.Core.List.{List, [], _∷_, _++_, append-assoc, append-nil}
-use Prim.Native.Nat.{ℕ, zero, suc, _+_, _-_, _≤_}
+use Prim.Native.Nat.{ℕ, zero, suc, _+_, _≤_, _<_}
 use native.Mathlib.Omega.{arith}
 use lib.Dec.{eqb}
 use lib.ListN.{length, take, drop, length-append, length-take, length-drop, take-append-drop}
@@ -13,8 +13,7 @@ use borrow.Author.Tests.{eq-eqb, ne-eqb, eqb-true, eqb-false, le-ltb}
 use Rattle.words.specs.Endian.{leBytes}
 use Rattle.words.proofs.Laws.Cases.{by-bool}
 use Rattle.words.proofs.Laws.Endian.{length-leBytes}
-use Rattle.refusals.specs.Limits.{fileLimit, writtenBlock}
-use Rattle.refusals.proofs.Laws.Limits.{block-positive}
+use Rattle.refusals.specs.Limits.{fileLimit}
 use Rattle.block_stream.specs.Blocks.{blockTag, blockBytes, found, judge, dataAt}
 use Rattle.block_stream.specs.declared.Block.the-variants.{Data, Closing}
 use Rattle.block_stream.proofs.Laws.Judged.{length-blockTag, length-blockBytes, judge-written}
@@ -22,7 +21,7 @@ use Rattle.opening.specs.declared.Keys.{Keys}
 use Rattle.opening.specs.Decryption.{payload}
 use Rattle.opening.specs.Whole.{closeOf, walkIn, walk}
 use Rattle.opening.proofs.Laws.Walk.{walk-suc}
-use Rattle.writer.specs.Written.{blocksFrom}
+use Rattle.writer.specs.Written.{cutIn, blocksFrom}
 
 empty : (t : List ℕ) → length t ≡ 0 → t ≡ []
 empty [] h = refl
@@ -76,30 +75,31 @@ module _ (k : Keys) where
       length-append s (blockBytes (k .base) i d) ∙ omega (arith, length-blockBytes (k .base) d i) in
       walk-suc n k f i (length s) acc ∙ rw (j, b, m)
 
-  -- the first m blocks of a ciphertext t, where m is enough
-  pub walk-blocks : (m n i : ℕ) (s t f acc : List ℕ) → f ≡ s ++ blocksFrom m (k .base) i t → length f ≤ fileLimit
-      → length t ≤ m → m ≤ n
+  -- a ciphertext t in blocks of z bytes; m pieces are enough
+  pub walk-blocks : (z : ℕ) → 0 < z → (m n i : ℕ) (s t f acc : List ℕ) → f ≡ s ++ blocksFrom (k .base) i (cutIn z m t)
+      → length f ≤ fileLimit → length t ≤ m → m ≤ n
       → walk (suc n) k f i (length s) acc ≡ payload k (acc ++ t)
-  unfolding blocksFrom
-  walk-blocks zero n i s t f acc e l h g =
-      let z : t ≡ [] = empty t (omega arith) in
-      walk-closing n i s f acc e l ∙ ap (λ (x : List ℕ). payload k x) (sym (ap (λ (y : List ℕ). acc ++ y) z ∙ append-nil acc))
-  walk-blocks (suc m) zero i s t f acc e l h g = absurd (omega arith)
-  walk-blocks (suc m) (suc n) i s t f acc e l h g =
+  unfolding blocksFrom cutIn
+  walk-blocks z some zero n i s t f acc e l h g =
+      let x : t ≡ [] = empty t (omega arith) in
+      walk-closing n i s f acc e l
+      ∙ ap (λ (v : List ℕ). payload k v) (sym (ap (λ (v : List ℕ). acc ++ v) x ∙ append-nil acc))
+  walk-blocks z some (suc m) zero i s t f acc e l h g = absurd (omega arith)
+  walk-blocks z some (suc m) (suc n) i s t f acc e l h g =
       by-bool (eqb (length t) 0)
       (λ x.
-      let z : t ≡ [] = empty t (eqb-true (length t) 0 x) in
+      let y : t ≡ [] = empty t (eqb-true (length t) 0 x) in
       walk-closing (suc n) i s f acc (rw x at e) l
-      ∙ ap (λ (y : List ℕ). payload k y) (sym (ap (λ (y : List ℕ). acc ++ y) z ∙ append-nil acc)))
+      ∙ ap (λ (v : List ℕ). payload k v) (sym (ap (λ (v : List ℕ). acc ++ v) y ∙ append-nil acc)))
       (λ x.
       let o = eqb-false (length t) 0 x in
-      let d = take writtenBlock t in
-      let r = blocksFrom m (k .base) (suc i) (drop writtenBlock t) in
+      let d = take z t in
+      let r = blocksFrom (k .base) (suc i) (cutIn z m (drop z t)) in
       let a : f ≡ s ++ (blockBytes (k .base) i d ++ r) = rw x at e in
       let b : f ≡ s ++ blockBytes (k .base) i d ++ r = a ∙ sym (append-assoc s (blockBytes (k .base) i d) r) in
-      let q : length d ≡ 0 → ⊥ = λ y. omega (arith, sym (length-take writtenBlock t) ∙ y, block-positive) in
-      let c : length (drop writtenBlock t) ≤ m = rw length-drop (omega (arith, block-positive)) in
+      let q : length d ≡ 0 → ⊥ = λ y. omega (arith, sym (length-take z t) ∙ y) in
+      let c : length (drop z t) ≤ m = rw length-drop (omega arith) in
       walk-data (suc n) i s d r f acc a l q
-      ∙ walk-blocks m n (suc i) (s ++ blockBytes (k .base) i d) (drop writtenBlock t) f (acc ++ d) b l c (omega arith)
+      ∙ walk-blocks z some m n (suc i) (s ++ blockBytes (k .base) i d) (drop z t) f (acc ++ d) b l c (omega arith)
       ∙ ap (λ (y : List ℕ). payload k y)
-      (append-assoc acc d (drop writtenBlock t) ∙ ap (λ (y : List ℕ). acc ++ y) (take-append-drop writtenBlock t)))
+      (append-assoc acc d (drop z t) ∙ ap (λ (y : List ℕ). acc ++ y) (take-append-drop z t)))

@@ -1,120 +1,40 @@
 -- The blocks of a ciphertext, one behind the other.
 --
 -- In order:
---   blocksFrom-same                             the count that ends them need only be large enough
 --   blocks-none, blocks-full, blocks-last       nothing left, a full block before the rest, the last one
---   length-blocks                               how long they are
 --   blocks-cut                                  a full block of a payload before the rest
 --   blocks-turn                                 one turn of the loop that writes them
--- Not here: how code lays them (Laying).
+-- Not here: how a ciphertext is cut (Cut), how code lays blocks (Laying).
 -- Assumes nothing.
-use mathlib.Core.Path.{_≡_, refl, sym, ap, ap₂, _∙_}
+use mathlib.Core.Path.{_≡_, sym, ap, ap₂, _∙_}
 use mathlib.Core.List.{List, [], _++_}
-use Prim.Native.Nat.{ℕ, zero, suc, _+_, _-_, _/_, _%_, _≤_, _<_}
-use native.Mathlib.Nat.{div-eq-of-lt, div-eq-sub-div}
+use Prim.Native.Nat.{ℕ, suc, _+_, _-_, _%_, _≤_}
 use native.Mathlib.Omega.{arith}
-use lib.Dec.{eqb, leb}
-use lib.ListN.{length, take, drop, length-append, length-drop, drop-of-length-le, take-append-drop}
-use lib.Seq.{take-all, take-at, take-add, drop-at, drop-drop, length-take-le}
-use borrow.Author.Tests.{eq-eqb, ne-eqb, eqb-true, eqb-false, leb-true, leb-false}
-use Rattle.words.proofs.Laws.Cases.{by-bool}
+use lib.ListN.{length, take, drop, length-append, length-drop, take-append-drop}
+use lib.Seq.{take-at, take-add, drop-at, drop-drop, length-take-le}
 use Rattle.refusals.specs.Limits.{writtenBlock}
 use Rattle.refusals.proofs.Laws.Limits.{block-positive, block-pieces}
 use Rattle.block_stream.specs.Blocks.{blockBytes}
 use Rattle.block_stream.proofs.Laws.Judged.{length-blockBytes}
 use Rattle.opening.specs.declared.Keys.{Keys}
 use Rattle.writer.specs.Written.{blocksFrom}
-use Rattle.writer.specs.Stretches.{stretchBy, prevBy, textOf, blocksAt, blocksLength, lastBlocks}
+use Rattle.writer.specs.Stretches.{stretchBy, prevBy, textOf, blocksAt, lastBlocks}
+use Rattle.writer.proofs.Laws.Cut.{cut-none, cut-full, cut-last}
 use Rattle.writer.proofs.Laws.Stretches.{textOf-append, stretch-append, length-stretch}
-
-shorter : (t : List ℕ) (m : ℕ) → length t ≤ suc m → (length t ≡ 0 → ⊥) → length (drop writtenBlock t) ≤ m
-shorter t m h n = omega (arith, length-drop writtenBlock t, block-positive)
-
-pub blocksFrom-same : (m n : ℕ) (base : List ℕ) (i : ℕ) (t : List ℕ) → length t ≤ m → length t ≤ n
-    → blocksFrom m base i t ≡ blocksFrom n base i t
-unfolding blocksFrom
-blocksFrom-same zero zero base i t h l = refl
-blocksFrom-same zero (suc n) base i t h l =
-    let e : length t ≡ 0 = omega arith in
-    rw (eq-eqb (length t) 0 e)
-blocksFrom-same (suc m) zero base i t h l =
-    let e : length t ≡ 0 = omega arith in
-    rw (eq-eqb (length t) 0 e)
-blocksFrom-same (suc m) (suc n) base i t h l =
-    by-bool (eqb (length t) 0) (λ e. rw e)
-    (λ e.
-    let d = eqb-false (length t) 0 e in
-    rw e (ap (λ (r : List ℕ). blockBytes base i (take writtenBlock t) ++ r)
-    (blocksFrom-same m n base (suc i) (drop writtenBlock t) (shorter t m h d) (shorter t n l d))))
 
 pub blocks-none : (base : List ℕ) (i : ℕ) (t : List ℕ) → length t ≡ 0 → blocksAt base i t ≡ blockBytes base i []
 unfolding blocksFrom
-blocks-none base i t e = rw e
-
--- a block before the rest
-blocks-some : (base : List ℕ) (i : ℕ) (t : List ℕ) (m : ℕ) → length t ≡ suc m
-    → blocksAt base i t ≡ blockBytes base i (take writtenBlock t) ++ blocksAt base (suc i) (drop writtenBlock t)
-unfolding blocksFrom
-blocks-some base i t m e =
-    let n : length t ≡ 0 → ⊥ = λ z. omega arith in
-    let f = shorter t m (omega arith) n in
-    rw (e, ne-eqb (length t) 0 n)
-    (ap (λ (r : List ℕ). blockBytes base i (take writtenBlock t) ++ r)
-    (blocksFrom-same m (length (drop writtenBlock t)) base (suc i) (drop writtenBlock t) f (omega arith)))
+blocks-none base i t e = ap (blocksFrom base i) (cut-none writtenBlock block-positive t e)
 
 pub blocks-full : (base : List ℕ) (i : ℕ) (a b : List ℕ) → length a ≡ writtenBlock
     → blocksAt base i (a ++ b) ≡ blockBytes base i a ++ blocksAt base (suc i) b
-blocks-full base i a b e =
-    let n : length (a ++ b) ≡ suc (writtenBlock - 1 + length b) = omega (arith, length-append a b, block-positive) in
-    blocks-some base i (a ++ b) _ n ∙ rw (take-at a b writtenBlock e, drop-at a b writtenBlock e)
+unfolding blocksFrom
+blocks-full base i a b e = ap (blocksFrom base i) (cut-full writtenBlock block-positive a b e)
 
 pub blocks-last : (base : List ℕ) (i : ℕ) (a : List ℕ) → (length a ≡ 0 → ⊥) → length a ≤ writtenBlock
     → blocksAt base i a ≡ blockBytes base i a ++ blockBytes base (suc i) []
-blocks-last base i a n h =
-    let m : length a ≡ suc (length a - 1) = omega arith in
-    let e : drop writtenBlock a ≡ [] = drop-of-length-le a h in
-    blocks-some base i a _ m ∙ rw (take-all writtenBlock a h, e) (ap (λ (r : List ℕ). blockBytes base i a ++ r)
-    (blocks-none base (suc i) [] refl))
-
--- rounding up: none, one, and one more
-round-none : (n : ℕ) → 0 < n → (0 + (n - 1)) / n ≡ 0
-round-none n h = div-eq-of-lt (omega arith)
-
-round-more : (t n : ℕ) → 0 < n → 0 < t → (t + (n - 1)) / n ≡ (t - n + (n - 1)) / n + 1
-round-more t n h l =
-    by-bool (leb n t)
-    (λ e.
-    let g = leb-true n t e in
-    let f : t + (n - 1) - n ≡ t - n + (n - 1) = omega arith in
-    div-eq-sub-div h (omega arith) ∙ ap (λ (x : ℕ). x / n + 1) f)
-    (λ e.
-    let g = leb-false n t e in
-    let f : t + (n - 1) - n ≡ t - 1 = omega arith in
-    let k : t - n + (n - 1) ≡ n - 1 = omega arith in
-    let a : t - 1 < n = omega arith in
-    let b : n - 1 < n = omega arith in
-    div-eq-sub-div h (omega arith) ∙ ap (λ (x : ℕ). x / n + 1) f ∙ rw (k, div-eq-of-lt a, div-eq-of-lt b))
-
-length-from : (m : ℕ) (base : List ℕ) (i : ℕ) (t : List ℕ) → length t ≤ m
-    → length (blocksFrom m base i t) ≡ blocksLength (length t)
-unfolding blocksFrom blocksLength
-length-from zero base i t h =
-    let e : length t ≡ 0 = omega arith in
-    length-blockBytes base [] i ∙ rw (e, round-none writtenBlock block-positive)
-length-from (suc m) base i t h =
-    by-bool (eqb (length t) 0)
-    (λ e. rw (e, eqb-true (length t) 0 e, round-none writtenBlock block-positive) (length-blockBytes base [] i))
-    (λ e.
-    let d = eqb-false (length t) 0 e in
-    let l = shorter t m h d in
-    let r = round-more (length t) writtenBlock block-positive (omega arith) in
-    let f = length-from m base (suc i) (drop writtenBlock t) l in
-    let g : length (take writtenBlock t) + length (drop writtenBlock t) ≡ length t =
-    sym (length-append (take writtenBlock t) (drop writtenBlock t)) ∙ ap length (take-append-drop writtenBlock t) in
-    rw (e, length-append, length-blockBytes, f, r, length-drop) (omega (arith, g, length-drop writtenBlock t)))
-
-pub length-blocks : (base : List ℕ) (i : ℕ) (t : List ℕ) → length (blocksAt base i t) ≡ blocksLength (length t)
-length-blocks base i t = length-from (length t) base i t (omega arith)
+unfolding blocksFrom
+blocks-last base i a n h = ap (blocksFrom base i) (cut-last writtenBlock block-positive a n h)
 
 -- a block of a payload, encrypted, before the rest of it chained to the block
 pub blocks-cut : (k : Keys) (v : List ℕ) (i p : ℕ) (a b : List ℕ) → length v ≡ 16 → length a ≡ writtenBlock

@@ -17,6 +17,8 @@ use lib.ListN.{length, take, drop, length-append, length-drop}
 use lib.Seq.{take-all, length-take-le}
 use Rattle.slices.specs.Over.{over, laid}
 use Rattle.slices.proofs.Laws.Over.{length-over, take-over, over-fits, over-over, over-tail}
+use Rattle.refusals.specs.Limits.{writtenBlock}
+use Rattle.refusals.proofs.Laws.Limits.{block-positive}
 use Rattle.ciphers.specs.declared.Cipher.{Cipher}
 use Rattle.ciphers.proofs.Laws.{nonceLength-le}
 use Rattle.kdf_dictionary.specs.declared.writer.Figures.{Figures as KdfFigures}
@@ -30,7 +32,7 @@ use Rattle.vault_keys.proofs.Laws.{keysWith-cipher, keysWith-nonce, length-head
 use Rattle.writer.specs.Written.{encryptionBy, blocksOf, fileWith}
 use Rattle.writer.specs.Stretches.{textLength, blocksLength, fileLength, fileOf, summed, Sized}
 use Rattle.writer.proofs.Laws.Stretches.{encryption-text, length-stretch-text, length-textOf}
-use Rattle.writer.proofs.Laws.Blocks.{length-blocks}
+use Rattle.writer.proofs.Laws.Cut.{length-blocks}
 
 pub headerLength-salt : (c : Cipher) (fig : KdfFigures) (salt : List ℕ) (m : ℕ) → length salt ≤ 64
     → headerLength c fig (length (take 64 salt)) m ≡ headerLength c fig (length salt) m
@@ -45,9 +47,9 @@ sums-split base h = append-assoc h (headerHash h) (headerTag base h)
 
 pub length-written-blocks : (c : Cipher) (k : Keys) (b : List ℕ) → length (k .nonce) ≡ 16
     → length (blocksOf (k .base) (encryptionBy c k b)) ≡ blocksLength (textLength c (length b))
-unfolding blocksOf
+unfolding blocksOf blocksLength
 length-written-blocks c k b h =
-    length-blocks (k .base) 0 (encryptionBy c k b)
+    length-blocks writtenBlock block-positive (k .base) 0 (encryptionBy c k b)
     ∙ ap blocksLength (ap length (encryption-text c k b) ∙ length-stretch-text c k (k .nonce) 0 b h ∙ length-textOf c b)
 
 module _ (minor : ℕ) (c : Cipher) (seed nonce : List ℕ) (fig : KdfFigures) (salt custom : List ℕ)
@@ -89,7 +91,7 @@ module _ (minor : ℕ) (c : Cipher) (seed nonce : List ℕ) (fig : KdfFigures) (
 
     pub length-file : length (fileOf minor c seed nonce fig salt custom t b)
         ≡ fileLength c fig (length salt) (length custom) (length b)
-    unfolding fileWith fileLength
+    unfolding fileWith fileLength blocksOf
     length-file =
         length-append (summed (keys .base) header) (blocksOf (keys .base) (encryptionBy c keys b))
         ∙ ap₂ _+_ (length-summed (keys .base) header ∙ ap (λ (n : ℕ). n + 64) length-header)
@@ -137,7 +139,7 @@ module _ (minor : ℕ) (c : Cipher) (seed nonce : List ℕ) (fig : KdfFigures) (
       pub file-laid : (ys : List ℕ) → ys ≡ over blocks (take (length x - at) (drop at x))
           → take at x ++ (ys ++ drop (length x - at) (drop at x))
           ≡ over (fileOf minor c seed nonce fig salt custom t b) d
-      unfolding fileWith
+      unfolding fileWith blocksOf
       file-laid ys ey =
           let m : length x - at ≡ length d - at = ap (λ (n : ℕ). n - at) same-long in
           let e : k .cipher ≡ c = ap (λ (j : Keys). j .cipher) ek ∙ keysWith-cipher c seed (padded nonce) t in

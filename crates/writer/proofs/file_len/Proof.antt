@@ -15,7 +15,7 @@ use Rattle.ciphers.proofs.Laws.{nonceLength-le}
 use Rattle.kdf_dictionary.specs.declared.writer.Figures.{Figures as KdfFigures}
 use Rattle.kdf_dictionary.proofs.Laws.Layout.{kdfLength-le}
 use Rattle.header_writer.specs.Written.{headerLength}
-use Rattle.writer.specs.Stretches.{textLength, blocksLength, fileLength}
+use Rattle.writer.specs.Stretches.{textLength, blockCount, blocksLength, fileLength}
 use Rattle.writer.proofs.Laws.Stretches.{textLength-le}
 use Rattle.writer.proofs.Laws.Files.{headerLength-salt}
 use borrow.Author.Needs.{needs}
@@ -96,7 +96,7 @@ add-result-3 c =
     search needs
 
 returns : tie.Need-returns
-unfolding fileLength blocksLength
+unfolding fileLength blocksLength blockCount
 returns c =
     let st = c .before .before .before .before .before in
     let a = st .args in

@@ -6,7 +6,7 @@ use denote.Ref.{now}
 use lib.ListN.{length}
 use Rattle.slices.specs.Over.{over}
 use Rattle.slices.proofs.Laws.Over.{over-nil}
-use Rattle.writer.specs.Written.{Figures, figures, headerOf, fileBytes, checkedOf}
+use Rattle.writer.specs.Written.{Figures, figures, headerOf, fileCut, checkedOf}
 use Rattle.writer.proofs.Laws.Checks.{checked-sized, writing-refused, shown-refused, writing-as, shown-as}
 use borrow.Author.Needs.{needs}
 use Rattle.writer.proofs.write.Statement.{statement}
@@ -38,7 +38,7 @@ write-checked-requires c κs =
     (now (a .custom)) _ (sym (at-check .check .ensures) ∙ c .before .before .c .given .1)
 
 returns-2 : tie.Need-returns-2
-unfolding checkedOf fileBytes headerOf
+unfolding checkedOf fileCut headerOf
 returns-2 c =
     let at-write = c .before .before in
     let at-c = at-write .before .before .before in

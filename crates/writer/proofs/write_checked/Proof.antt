@@ -8,7 +8,8 @@ use lib.ListN.{length}
 use borrow.Author.Tests.{leb-true}
 use Rattle.slices.specs.Over.{over}
 use Rattle.refusals.specs.Limits.{fileLimit}
-use Rattle.writer.specs.Stretches.{fileLength, fileOf, settled, bytesOf}
+use Rattle.writer.specs.Written.{sizes, settled}
+use Rattle.writer.specs.Stretches.{fileLength, fileOf, bytesOf}
 use Rattle.writer.proofs.Laws.Checks.{settled-payload, settled-file, settled-room, settled-wrote}
 use Rattle.writer.proofs.Laws.Files.{length-file}
 use borrow.Author.Needs.{needs}
@@ -46,7 +47,7 @@ returns c =
     let e : at-len .file-len .result ≡ length (file st) = at-len .file-len .ensures ∙ sym (long st) in (
       settled-room b (at-len .file-len .result) n (sym (at-pay .payload-fits .ensures) ∙ at-len .before .if1 .taken)
           (sym (at-fits .file-fits .ensures) ∙ c .before .if2 .taken) (c .if3 .taken)
-          ∙ ap (λ (f : ℕ). settled b f n) e,
+          ∙ ap (λ (f : ℕ). settled sizes b f n) e,
       refl,
     )
 
@@ -75,7 +76,7 @@ returns-2 c =
     let e : at-len .file-len .result ≡ length (file st) = at-len .file-len .ensures ∙ sym (long st) in (
       settled-wrote b (at-len .file-len .result) n (sym (at-pay .payload-fits .ensures) ∙ at-len .before .if1 .taken)
           (sym (at-fits .file-fits .ensures) ∙ if3 .before .if2 .taken) (if3 .if3 .left)
-          ∙ ap (λ (f : ℕ). settled b f n) e,
+          ∙ ap (λ (f : ℕ). settled sizes b f n) e,
       at-write .write-file .ensures,
     )
 
@@ -91,7 +92,7 @@ returns-3 c =
     let e : at-len .file-len .result ≡ length (file st) = at-len .file-len .ensures ∙ sym (long st) in (
       settled-file b (at-len .file-len .result) n (sym (at-pay .payload-fits .ensures) ∙ at-len .before .if1 .taken)
           (sym (at-fits .file-fits .ensures) ∙ c .if2 .left)
-          ∙ ap (λ (f : ℕ). settled b f n) e,
+          ∙ ap (λ (f : ℕ). settled sizes b f n) e,
       refl,
     )
 
