@@ -1,7 +1,7 @@
 // Argon2's variable-length hash function H' (RFC 9106, 3.3), as long as the slice that it is to fill.
 //
-// The contracts cite specs/LongHash. Refusal: a message that with the four bytes before it is over 8,388,608 bytes; the
-// lent slice is then as it was.
+// The contracts cite specs/LongHash. Refusal: a message that with the four bytes before it is over its limit; the lent
+// slice is then as it was.
 ghost use mathlib.Core.Path.{_≡_};
 ghost use mathlib.Core.List.{_++_};
 ghost use Prim.Native.Nat.{_+_, _≤_, _<_};

@@ -3,7 +3,7 @@
 // The contracts cite specs/State. proofs/Parts has the theorem: the first nn bytes of a finish after any feeds are the
 // RFC's hash of the accepted parts joined. `finish` gives all 64 bytes of the final h, since an array has a fixed length;
 // the digest is the first nn of them. A digest length is any byte: one outside 1 to 64, which the RFC does not have, goes
-// into h as it is. Refusal: a feed that would take the message past 8,388,608 bytes, with the state as it was.
+// into h as it is. Refusal: a feed that would take the message past its limit, with the state as it was.
 // Every value of the struct is a state; how many bytes of the buffer are pending follows from the total.
 ghost use mathlib.Core.Path.{_≡_};
 ghost use Prim.Native.Nat.{_+_, _<_, _^_};

@@ -1,7 +1,7 @@
 // The search for repeated names: the items in batches, each batch in a table that every later item is looked up in.
 //
 // A dictionary of n items takes n / 4096 passes, each from a batch to the end with a search by halving for every item.
-// 4 MiB of the smallest items, some 350,000, take 10^10 instructions. The contracts cite specs/Repeats.
+// 16 MiB of the smallest items, some 1,400,000, take 1.5·10^11 instructions. The contracts cite specs/Repeats.
 ghost use mathlib.Core.Path.{_≡_};
 ghost use mathlib.Core.List.{[]};
 ghost use Prim.Native.Nat.{_≤_, _<_};

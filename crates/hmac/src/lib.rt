@@ -2,8 +2,8 @@
 // message in one call.
 //
 // The contracts cite specs/Tagging. proofs/Parts has the theorem: a finish after any feeds is RFC 2104's tag of the
-// accepted parts joined. Refusals: a key over 8,388,608 bytes, with a state that refuses every feed; a feed that would
-// take the message, without the key block, past the same limit, with the state as it was.
+// accepted parts joined. Refusals: a key over a message's limit, with a state that refuses every feed; a feed that
+// would take the message, without the key block, past it, with the state as it was.
 ghost use mathlib.Core.Path.{_≡_};
 ghost use Prim.Native.Nat.{_≤_};
 ghost use lib.ListN.{length};

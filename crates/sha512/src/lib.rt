@@ -1,8 +1,8 @@
 // SHA-512 (FIPS 180-4) as a state by value: start, feed in parts, finish; and a whole message in one call.
 //
 // The contracts cite sha2's Hashing. proofs/Parts has the theorem: a finish after any feeds is the standard's hash of
-// the accepted parts joined. Refusal: a feed that would take the message past 8,388,608 bytes, with the state as it
-// was. Every value of the struct is a state; how many bytes of the buffer are pending follows from the total.
+// the accepted parts joined. Refusal: a feed that would take the message past its limit, with the state as it was.
+// Every value of the struct is a state; how many bytes of the buffer are pending follows from the total.
 ghost use mathlib.Core.Path.{_≡_};
 ghost use Prim.Native.Nat.{_+_, _<_, _^_};
 ghost use lib.ListN.{length};
