@@ -14,7 +14,8 @@ from key_files import DIGITS, key_file_part
 from messages import pattern
 from vectors_writer import le
 
-MESSAGE_LIMIT = 8_388_608
+CREDENTIAL_LIMIT = 4_194_304  # of a password and a key file
+MESSAGE_LIMIT = 33_554_432
 
 
 def credentials(cases, entries):

@@ -1,7 +1,7 @@
 """Cases of the inner stream.
 
-The numbers are told by hand, from document 02, Item 1. The bytes are those of inner_streams.py; those of other programs'
-vaults hold every password that the manifest tells.
+The numbers are told by hand, from document 02, Item 1. The bytes are those of inner_streams.py; those of other
+programs' vaults hold every password that the manifest tells.
 """
 import base64
 import re

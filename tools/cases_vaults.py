@@ -13,7 +13,7 @@ from messages import pattern
 from payloads import payload_of
 from vectors_writer import AES, CHACHA20, CUSTOM, DICTIONARIES, encrypted, header_of, le, write
 
-FILE_LIMIT = 4_194_304
+FILE_LIMIT = 16_777_216  # of a payload too
 
 
 def tag_of(i, *parts):
@@ -175,8 +175,8 @@ def made_steps(cases):
         cases.add("steps", f"start: {name}", no, data=data, T=T, lents=[99, 99])
 
 
-# Document 01, "Numbers to meet": the lengths of files without a custom dictionary.
-GIVEN = {(AES, 0): 359, (CHACHA20, 0): 303, (CHACHA20, 1): 340, (AES, 16_384): 16_779, (CHACHA20, 16_384): 16_723}
+# Document 01, "Numbers to meet", and document 02, Item 7: the lengths of files without a custom dictionary.
+GIVEN = {(AES, 0): 359, (CHACHA20, 0): 303, (CHACHA20, 1): 340, (AES, 16_384): 16_743, (CHACHA20, 16_384): 16_723}
 
 
 def asked_of(cipher, payload, minor=1, rounds=1, custom=b"", **changed):

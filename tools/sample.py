@@ -50,6 +50,7 @@ def empty_vault(composite):
     ).encode()
     inner = field(1, number(3, 4)) + field(2, secrets.token_bytes(64)) + field(0, b"")
     head = header(keys, f4=seed, f11=kdf(rounds=ROUNDS, seed=kdf_seed))
+    # In blocks as the writer cut them before document 02's Item 7: a reader takes blocks of any size.
     return front(keys, head) + blocks(keys, text_of(keys, inner + document), [16_384])
 
 

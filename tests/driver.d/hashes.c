@@ -43,7 +43,7 @@ void op_hash(request *q) {
     json_begin(&q->answer, '[');
     for (const json_value *part = parts->first; part; part = part->next) {
         const struct block *last = q->blocks;
-        json_number(&q->answer, fed(q, a, state, value_input(q, part, "parts")));
+        json_number(&q->answer, fed(q, a, state, value_bytes(q, part, "parts")));
         request_free(q, last);
     }
     json_end(&q->answer, ']');

@@ -1,10 +1,11 @@
 /* The driver: one way to ask the library anything. It reads one JSON object a line from standard input, and answers one
  * a line, in order, until the input ends. It adds nothing of its own: no check, no default, no repair.
  *
- * An object has the operation's name in "op" and its fields. Bytes are lower-case hexadecimal, and an absent field is
- * absent; fields that the operation does not have are not looked at. The answer has the library's number in "no"; after
- * a refusal nothing else but "touched": true, if a lent byte, count or figure is not as it was. After a success
- * "touched" says that bytes behind those due have changed. Outputs are filled with A5 before each call.
+ * An object has the operation's name in "op" and its fields. Bytes are lower-case hexadecimal; those of a request may
+ * also be {"zeros": n}, so many zeros. An absent field is absent; fields that the operation does not have are not
+ * looked at. The answer has the library's number in "no"; after a refusal nothing else but "touched": true, if a lent
+ * byte, count or figure is not as it was. After a success "touched" says that bytes behind those due have changed.
+ * Outputs are filled with A5 before each call.
  *
  *   op           asks                                           answers on 0
  *   header       data                                           minor, cipher, length, seed, nonce, kdf, kdf_span,
@@ -16,7 +17,7 @@
  *   rounds       composite, S, R, helpings [n, ..]              helpings [[done in all, halves], ..], T or null, T_no
  *   argon2       kind, composite, S, I, M, P, lent              T
  *   keys         seed, T, i                                     cipher_key, tag_base, tag_key
- *   hash         alg, parts [bytes or {"zeros": n}, ..]         feeds [no, ..], digest
+ *   hash         alg, parts [bytes, ..]                         feeds [no, ..], digest
  *   tag          key, data                                      tag
  *   open         data, T, lent                                  length, payload
  *   steps        data, T, lents [n, ..], file_lengths {"k": n}  steps [{no, count, bytes}, ..]
@@ -27,7 +28,7 @@
  *   attachment   data, index                                    flags, at, length, content
  *   inner_write  alg, key, run, data, lent                      length, payload
  *   stream       alg, key, position, data, lent                 bytes
- *   streams      alg, key, parts [bytes or {"zeros": n}, ..]    parts [{no, bytes}, ..]
+ *   streams      alg, key, parts [bytes, ..]                    parts [{no, bytes}, ..]
  *
  * - `kdf` is {kind: "aeskdf", S, R} or {kind: "argon2d" or "argon2id", S, I, M, P}; a header's has V too. A kind that
  *   is asked for may also be a number, which is handed on as it stands.
@@ -37,9 +38,8 @@
  * - Each of the `steps` has all three: after a refusal a count of 0 and no bytes, which is document 01's "zero in every
  *   other answer". "touched" stands in the step's own object; after 17 and 19 the state too is to be as it was. A
  *   refused start answers its number alone.
- * - The key and the data of `stream`, and the key of `streams`, may be {"zeros": n} too. Each part of `streams` is lent
- *   enough; a refused one has its number alone, and the state is to be as it was, else "touched" stands in the part's own
- *   object. A refused start answers its number alone.
+ * - Each part of `streams` is lent enough; a refused one has its number alone, and the state is to be as it was, else
+ *   "touched" stands in the part's own object. A refused start answers its number alone.
  * - T of `rounds` is asked for once, behind the helpings: T_no is the number of that.
  * - The cipher of `write` is "aes", "chacha" or the identifier's bytes, of any length. An absent "custom" has no bytes.
  * - An absent "lent", and one past what is surely enough, means large enough.

@@ -86,7 +86,7 @@ static int hex_digit(char c) {
     return 'a' <= c && c <= 'f' ? c - 'a' + 10 : -1;
 }
 
-slice value_bytes(request *q, const json_value *value, const char *name) {
+static slice hex_bytes(request *q, const json_value *value, const char *name) {
     if (value->kind != JSON_STRING || value->length % 2 != 0) request_fault(q, "%s: not hexadecimal", name);
     size_t n = value->length / 2;
     uint8_t *bytes = make_block(q, n, false);
@@ -98,16 +98,14 @@ slice value_bytes(request *q, const json_value *value, const char *name) {
     return (slice){bytes, n};
 }
 
-slice field_bytes(request *q, const json_value *object, const char *name) {
-    return value_bytes(q, field_of(q, object, name), name);
-}
-
-slice value_input(request *q, const json_value *value, const char *name) {
-    if (value->kind != JSON_OBJECT) return value_bytes(q, value, name);
+slice value_bytes(request *q, const json_value *value, const char *name) {
+    if (value->kind != JSON_OBJECT) return hex_bytes(q, value, name);
     return lend_input(q, (slice){NULL, 0}, field_number(q, value, "zeros", UINT64_MAX));
 }
 
-slice field_input(request *q, const char *name) { return value_input(q, field_of(q, q->asked, name), name); }
+slice field_bytes(request *q, const json_value *object, const char *name) {
+    return value_bytes(q, field_of(q, object, name), name);
+}
 
 const uint8_t *field_array_of(request *q, const json_value *object, const char *name, size_t n) {
     slice bytes = field_bytes(q, object, name);

@@ -43,12 +43,10 @@ const json_value *field_object(request *q, const char *name);
 uint64_t field_number(request *q, const json_value *object, const char *name, uint64_t most);
 bool field_is(request *q, const json_value *object, const char *name, const char *text);
 slice field_bytes(request *q, const json_value *object, const char *name);
-slice field_input(request *q, const char *name); /* bytes, or {"zeros": n} */
 const uint8_t *field_array_of(request *q, const json_value *object, const char *name, size_t n); /* just n bytes */
 
-/* A value as bytes of hexadecimal, as such bytes or {"zeros": n}, so many zeros, or as a number. */
+/* A value as bytes, which are hexadecimal or {"zeros": n}, so many zeros; or as a number. */
 slice value_bytes(request *q, const json_value *value, const char *name);
-slice value_input(request *q, const json_value *value, const char *name);
 uint64_t value_number(request *q, const json_value *value, const char *name, uint64_t most);
 
 /* The length to lend: that of the field `lent`, at most what is surely enough, and that where it is absent. */

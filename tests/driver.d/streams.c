@@ -9,7 +9,7 @@ static size_t enough_to_cover(slice bytes) { return bytes.length + 64; }
 void op_stream(request *q) {
     uint32_t algorithm = (uint32_t)field_number(q, q->asked, "alg", UINT32_MAX);
     uint64_t position = field_number(q, q->asked, "position", UINT64_MAX);
-    slice key = field_input(q, "key"), bytes = field_input(q, "data");
+    slice key = field_bytes(q, q->asked, "key"), bytes = field_bytes(q, q->asked, "data");
     size_t room = field_lent(q, enough_to_cover(bytes)), *count = lend(q, sizeof *count);
     uint8_t *out = lend(q, room);
     uint8_t no = kdbx4_inner_stream(algorithm, key.at, key.length, position, bytes.at, bytes.length, out, room, count);
@@ -38,7 +38,7 @@ static void answer_part(request *q, uint8_t *state, slice bytes) {
 
 void op_streams(request *q) {
     uint32_t algorithm = (uint32_t)field_number(q, q->asked, "alg", UINT32_MAX);
-    slice key = field_input(q, "key");
+    slice key = field_bytes(q, q->asked, "key");
     const json_value *parts = field_array(q, "parts");
     uint8_t *state = lend(q, KDBX4_INNER_STREAM_STATE);
     if (!answer_no(q, kdbx4_inner_stream_start(algorithm, key.at, key.length, state))) return;
@@ -46,7 +46,7 @@ void op_streams(request *q) {
     json_begin(&q->answer, '[');
     for (const json_value *part = parts->first; part; part = part->next) {
         const struct block *last = q->blocks;
-        answer_part(q, state, value_input(q, part, "parts"));
+        answer_part(q, state, value_bytes(q, part, "parts"));
         request_free(q, last);
     }
     json_end(&q->answer, ']');
