@@ -1,5 +1,5 @@
-"""The model by itself: files of other programs, the worked numbers and the worked listing of document 01, and the
-published numbers of Salsa20, which the model makes itself.
+"""The model by itself: files of other programs, the worked numbers and the worked listing of document 01, those of
+document 02's Items 6 and 7, and the published numbers of Salsa20, which the model makes itself.
 
 This is what `tests/differential --self` runs. The fixtures' manifest was made by their own programs.
 """
@@ -11,6 +11,7 @@ from random import Random
 from inputs.requests import some_vault
 from inputs.shapes import Block, sound_vault
 from model import header as outer, inner, keys, salsa20, stream, vault
+from model.answers import answer
 from model.dictionary import AES_KDF, ARGON2D, ARGON2ID, kdf_figures
 from model.limits import STREAM_LIMIT, Refusal
 from model.primitives import sha256
@@ -199,12 +200,63 @@ def check_lengths(tally):
         (outer.CHACHA20, 0, 0, 303),
         (outer.CHACHA20, 1, 1, 340),
         (outer.AES, 16_383, 1, 207 + 64 + 72 + 16_384),
-        (outer.AES, 16_384, 2, 16_779),
         (outer.CHACHA20, 16_384, 1, 16_723),
+        # Item 7: "AES payload 16,384 now makes one data block, file 16,743", in place of document 01's two and 16,779.
+        (outer.AES, 16_384, 1, 16_743),
+        (outer.AES, 1_048_575, 1, 207 + 64 + 72 + 1_048_576),
+        (outer.AES, 1_048_576, 2, 1_048_971),
+        (outer.CHACHA20, 1_048_576, 1, 203 + 64 + 72 + 1_048_576),
+        (outer.CHACHA20, 1_048_577, 2, 203 + 64 + 108 + 1_048_577),
+        (outer.AES, 2_097_152, 3, 207 + 64 + 144 + 2_097_168),
+        (outer.CHACHA20, 16_776_337, 16, 16_777_216),
     ):
         data = written(cipher, payload_length)
         sizes = block_sizes(data, outer.read(data).length + 64)
         tally.same("file of %d" % payload_length, (len(data), len(sizes) - 1), (length, blocks))
+
+
+def check_limits(tally):
+    """Item 7's limits in numbers: "Passwords, key files and Item 1 keep 4,194,304." """
+    header = written(outer.CHACHA20, 0)[:203]
+    inner_header = inner.write(2, b"", b"", b"")
+    part, whole = bytes(4_194_304), bytes(16_777_216)
+    for label, number, action, *parts in (
+        ("a file", 0, outer.read, header + whole[203:]),
+        ("a file and a byte", 1, outer.read, header + whole[202:]),
+        ("a payload", 0, inner.read, inner_header + whole[19:]),
+        ("a payload and a byte", 1, inner.read, inner_header + whole[18:]),
+        ("a written payload", 0, inner.write, 2, b"", b"", whole[19:]),
+        ("a written payload and a byte", 1, inner.write, 2, b"", b"", whole[18:]),
+        ("a written file and a byte", 1, written, outer.CHACHA20, 16_776_338),
+        ("a payload whose file is over the limit", 1, written, outer.CHACHA20, 16_777_216),
+        ("a password", 0, keys.composite, part, None, None),
+        ("a password and a byte", 1, keys.composite, part + b"a", None, None),
+        ("a key file", 0, keys.composite, None, part, None),
+        ("a key file and a byte", 1, keys.composite, None, part + b"a", None),
+        ("a header of a password's limit and a byte", 0, outer.read, header + part[202:]),
+    ):
+        tally.same(label, number_of(action, *parts), number)
+    for message, feeds in ((33_554_432, [0]), (33_554_433, [1])):
+        tally.same("a message", answer({"op": "hash", "alg": "sha256", "parts": [{"zeros": message}]})["feeds"], feeds)
+        tally.same("a tag", answer({"op": "tag", "key": "", "data": {"zeros": message}})["no"], feeds[0])
+
+
+def check_former_files(tally):
+    """Item 7: "Stored vaults stay valid and open as before. From inputs that the writer took before, a ciphertext over
+    16,384 bytes now gives other bytes and fewer tags; any other gives the same bytes." """
+    for cipher in (outer.AES, outer.CHACHA20):
+        for payload_length in (0, 1, 16_367, 16_368, 16_383, 16_384, 16_385, 1_048_576, 4_000_000):
+            data = written(cipher, payload_length)
+            header, vault_keys, at = vault.start(data, bytes(32))
+            name = outer.CIPHER_NAMES[cipher]
+            text = vault.encryption(name, vault_keys.cipher_key, header.nonce, bytes(payload_length))
+            former = data[:at] + vault.written_blocks(vault_keys.tag_base, text, 16_384)
+            label = "former file, %s %d" % (name, payload_length)
+            tally.same(label, former == data, len(text) <= 16_384)
+            fewer = len(block_sizes(data, at)) < len(block_sizes(former, at))
+            tally.same(label + " tags", fewer, len(text) > 16_384)
+            tally.same(label + " whole", vault.open_whole(former, bytes(32)) == bytes(payload_length), True)
+            tally.same(label + " by steps", stepped(former, bytes(32)) == bytes(payload_length), True)
 
 
 def check_handed_over(tally):
@@ -328,6 +380,8 @@ def check_model(fixtures):
     """All of it; True where every check passed."""
     tally = Tally()
     check_lengths(tally)
+    check_limits(tally)
+    check_former_files(tally)
     check_handed_over(tally)
     check_refusals(tally)
     check_argon2(tally)

@@ -2,7 +2,8 @@
 
 This is what `tests/differential --mutants` runs: an edited copy of tests/model answers in the driver's place. It shows
 that the inputs would find such a fault in the library too. The edits are in mutants.edits, and in mutants-large.edits
-those that only the large inputs tell apart: `# fault`, then `file:`, `old:` (text that occurs once) and `new:`.
+those that only the large inputs tell apart: `# fault`, then `file:`, `old:` (text that occurs once) and `new:`. A line
+`asked:` behind the file names the operations whose inputs have to tell this one apart.
 """
 
 import os
@@ -18,71 +19,86 @@ from model.answers import answer
 HERE = os.path.dirname(os.path.abspath(__file__))
 CHUNK = 2000
 CHUNKS = 8  # a fault that this many chunks do not show is not told apart
-BORDER_CHUNK = 10
-EDIT = re.compile(r"^# (.*)\nfile: (.*)\nold:\n(.*)\nnew:\n(.*)\Z", re.DOTALL)
+BORDER_CHUNK = 4  # they are large, so no more are held at once
+EDIT = re.compile(r"^# ([^\n]*)\nfile: ([^\n]*)\n(?:asked: ([^\n]*)\n)?old:\n(.*)\nnew:\n(.*)\Z", re.DOTALL)
 
 
-def edits(name):
-    """The edits of a file: fault, file, old text, new text."""
+class Mutant:
+    """An edited model in a folder of its own. Where no operations are named, it is asked all."""
+
+    def __init__(self, folder, fault, file, asked, old, new):
+        self.folder = folder
+        self.fault = fault
+        self.asked = asked and asked.split(", ")
+        shutil.copytree(os.path.join(HERE, "model"), os.path.join(folder, "model"))
+        path = os.path.join(folder, "model", file)
+        with open(path) as source:
+            text = source.read()
+        if text.count(old) != 1:
+            raise SystemExit("the text occurs %d times in %s: %s" % (text.count(old), file, old))
+        with open(path, "w") as source:
+            source.write(text.replace(old, new))
+
+    def told_apart(self, drive, answers_of, chunk):
+        """The index of the first input of a chunk that tells it apart, or None."""
+        chunk = [one for one in chunk if self.asked is None or one[1]["op"] in self.asked]
+        if not chunk:
+            return None
+        environment = dict(os.environ, PYTHONDONTWRITEBYTECODE="1")
+        requests = [one[1] for one in chunk]
+        given, failure = answers_of(*drive([sys.executable, "-m", "model"], requests, environment, self.folder))
+        for answered, (index, _, expected) in zip(given, chunk):
+            if answered != expected:
+                return index
+        if failure:
+            raise SystemExit("the edited model fails: %s" % failure)
+        return None
+
+
+def mutants(folder, name):
+    """The edited models of a file of edits."""
     with open(os.path.join(HERE, name)) as file:
         parts = file.read().rstrip("\n").split("\n\n# ")
     parts = [parts[0]] + ["# " + part for part in parts[1:]]
-    return [EDIT.match(part).groups() for part in parts]
+    return [
+        Mutant(os.path.join(folder, str(place)), *EDIT.match(part).groups()) for place, part in enumerate(parts)
+    ]
 
 
-def edited_model(folder, name, old, new):
-    """A copy of the model with the edit, in a folder of its own."""
-    shutil.rmtree(folder, ignore_errors=True)
-    shutil.copytree(os.path.join(HERE, "model"), os.path.join(folder, "model"))
-    path = os.path.join(folder, "model", name)
-    with open(path) as file:
-        text = file.read()
-    if text.count(old) != 1:
-        raise SystemExit("the text occurs %d times in %s: %s" % (text.count(old), name, old))
-    with open(path, "w") as file:
-        file.write(text.replace(old, new))
+def chunks(seed, first, limit, size):
+    """Inputs in chunks: each input's index, its request and the model's answer. A chunk is made when it is asked."""
+    for at in range(first, limit, size):
+        requests = [(index, request(seed, index)) for index in range(at, min(at + size, limit))]
+        yield [(index, one, answer(one)) for index, one in requests]
 
 
-def told_apart(drive, answers_of, folder, chunks):
-    """The place of the first input that tells the edited model apart, or None."""
-    environment = dict(os.environ, PYTHONDONTWRITEBYTECODE="1")
-    place = 0
-    for requests, right in chunks:
-        given, failure = answers_of(*drive([sys.executable, "-m", "model"], requests, environment, folder))
-        for one, (answered, expected) in enumerate(zip(given, right)):
-            if answered != expected:
-                return place + one
-        if failure:
-            raise SystemExit("the edited model fails: %s" % failure)
-        place += len(requests)
-    return None
+def shown(mutant, index):
+    """Print what told a mutant apart; False where nothing did."""
+    if index is not None:
+        print("%-60s told apart by input %d" % (mutant.fault, index), flush=True)
+    return index is not None
 
 
-def asked_and_right(seed, indexes):
-    """Requests with the model's answers."""
-    requests = [request(seed, index) for index in indexes]
-    return requests, [answer(one) for one in requests]
-
-
-def try_edits(name, chunks, drive, answers_of):
+def try_edits(name, inputs, drive, answers_of):
     """Try each edit of a file: how many are told apart, and how many not."""
-    told, missed = 0, 0
     with tempfile.TemporaryDirectory() as folder:
-        for fault, file, old, new in edits(name):
-            edited_model(os.path.join(folder, "edited"), file, old, new)
-            place = told_apart(drive, answers_of, os.path.join(folder, "edited"), chunks)
-            told, missed = told + (place is not None), missed + (place is None)
-            outcome = "NOT TOLD APART" if place is None else "told apart by input %d" % place
-            print("%-50s %s" % (fault, outcome), flush=True)
-    return told, missed
+        left = mutants(folder, name)
+        count = len(left)
+        for chunk in inputs:
+            left = [mutant for mutant in left if not shown(mutant, mutant.told_apart(drive, answers_of, chunk))]
+            if not left:
+                break
+        for mutant in left:
+            print("%-60s NOT TOLD APART" % mutant.fault, flush=True)
+    return count - len(left), len(left)
 
 
 def try_mutants(seed, drive, answers_of):
     """Try every edit; True where all are told apart."""
     first = len(BORDERS)
-    small = [asked_and_right(seed, range(at, at + CHUNK)) for at in range(first, first + CHUNK * CHUNKS, CHUNK)]
+    small = chunks(seed, first, first + CHUNK * CHUNKS, CHUNK)
     told, missed = try_edits("mutants.edits", small, drive, answers_of)
-    large = [asked_and_right(seed, range(at, min(at + BORDER_CHUNK, first))) for at in range(0, first, BORDER_CHUNK)]
+    large = chunks(seed, 0, first, BORDER_CHUNK)
     large_told, large_missed = try_edits("mutants-large.edits", large, drive, answers_of)
     print("%d told apart, %d not" % (told + large_told, missed + large_missed))
     return missed + large_missed == 0

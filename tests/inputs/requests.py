@@ -9,7 +9,7 @@ from model import vault as opening
 from model.answers import file_of_step
 from model.header import AES, CHACHA20, NONCE_LENGTH
 from model.keys import argon2_words
-from model.limits import FILE_LIMIT, STREAM_LIMIT, Refusal
+from model.limits import FILE_LIMIT, STREAM_LIMIT, WRITTEN_BLOCK, Refusal
 
 from . import edits
 from .borders import BORDERS, border, seeds
@@ -404,8 +404,12 @@ def sound_write(rng):
 
 
 def payload_length(rng):
-    """Mostly short; a few around the length of a written block and twice that."""
-    if rng.random() < 0.04:
+    """Mostly short; some around the length at which the former writer cut and twice that, a handful around the length
+    of a written block."""
+    roll = rng.random()
+    if roll < 0.0015:
+        return WRITTEN_BLOCK + rng.choice((-17, -16, -1, 0, 1, rng.randrange(1000)))
+    if roll < 0.04:
         return rng.choice((16_383, 16_384, 16_385, 16_367, 16_368, 32_767, 32_768, 32_769))
     return rng.choice((0, 1, 15, 16, 17, rng.randrange(200)))
 
@@ -454,7 +458,7 @@ def written_length(made):
     header = (207 if made["cipher"] == "aes" else 203) + (5 + custom if custom else 0)
     if made["kdf"]["kind"] != "aeskdf":
         header += 107 - 93 + len(made["kdf"]["S"]) // 2  # the dictionary of Argon2, in place of AES-KDF's
-    return header + 64 + text + 36 * (-(-text // 16_384) + 1)
+    return header + 64 + text + 36 * (-(-text // WRITTEN_BLOCK) + 1)
 
 
 # ----- the inner header

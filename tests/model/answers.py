@@ -90,7 +90,7 @@ def answer_keys(request):
 
 
 def answer_hash(request):
-    """R: 8,388,608 counts all feeds together; a refused feed leaves the state as it was."""
+    """R: the limit "counts all feeds together"; a refused feed leaves the state as it was."""
     fed = bytearray()
     feeds = []
     for part in request["parts"]:

@@ -1,7 +1,7 @@
 """The inner header (document 01, "Inner header")."""
 
 from .limits import (
-    ABSENT, CUT_SHORT, FILE_LIMIT, LENT_TOO_SHORT, REPEATED, SIZE, UNLISTED_ALGORITHM, UNLISTED_ID, int32, require,
+    ABSENT, CUT_SHORT, LENT_TOO_SHORT, PAYLOAD_LIMIT, REPEATED, SIZE, UNLISTED_ALGORITHM, UNLISTED_ID, int32, require,
     within,
 )
 
@@ -41,7 +41,7 @@ def field(data, at, listed, seen):
 
 def read(data):
     """ "The payload's length (1) is checked first." """
-    within(len(data), FILE_LIMIT)
+    within(len(data), PAYLOAD_LIMIT)
     made = InnerHeader()
     seen = set()
     at = 0
@@ -89,6 +89,6 @@ def write(algorithm, key, run, document, lent=None):
     check_run(run)
     made = written_field(ALGORITHM, algorithm.to_bytes(4, "little"))
     made += written_field(KEY, key) + run + written_field(END, b"") + document
-    within(len(made), FILE_LIMIT)
+    within(len(made), PAYLOAD_LIMIT)
     require(lent is None or lent >= len(made), LENT_TOO_SHORT)
     return made

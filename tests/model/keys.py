@@ -1,9 +1,10 @@
-"""Keys (document 01, "Keys"; document 02, Items 2 and 6)."""
+"""Keys (document 01, "Keys"; document 02, Items 2, 6 and 7)."""
 
 from . import primitives
 from .dictionary import argon2_within
 from .limits import (
-    AFTER_END, CREDENTIAL, FILE_LIMIT, LENT_TOO_SHORT, ROUNDS, ROUNDS_LIMIT, UNLISTED_ALGORITHM, require, within,
+    AFTER_END, CREDENTIAL, KEY_FILE_LIMIT, LENT_TOO_SHORT, PASSWORD_LIMIT, ROUNDS, ROUNDS_LIMIT, UNLISTED_ALGORITHM,
+    require, within,
 )
 from .primitives import aes_blocks, hmac_sha256, sha256, sha512
 
@@ -42,9 +43,10 @@ def key_file_part(key_file):
 
 def composite(password, key_file, pre_hash):
     """The composite key; None is an absent credential. "Order: lengths (1), then 18"."""
-    for part in (password, key_file):
+    # Item 7: "Passwords, key files and Item 1 keep 4,194,304." R: a pre-hash has no limit of its own.
+    for part, limit in ((password, PASSWORD_LIMIT), (key_file, KEY_FILE_LIMIT)):
         if part is not None:
-            within(len(part), FILE_LIMIT)
+            within(len(part), limit)
     if pre_hash is not None:
         # "pre-hash not 32 bytes, or given with another" is 18. "A pre-hash is the composite key itself."
         require(password is None and key_file is None and len(pre_hash) == 32, CREDENTIAL)

@@ -1,11 +1,19 @@
 """Refusal numbers and limits (document 01, "Numbers of the terminal" and "Refusal numbers"; document 02)."""
 
-FILE_LIMIT = 4_194_304  # file or payload, read or written; password; key file
-MESSAGE_LIMIT = 8_388_608  # one hash or tag message in all
+# Document 01's table has "file or payload, read or written; password; key file" in one row. Item 7 parts it: "raise the
+# one library's file and payload limits to 16,777,216 bytes", "Passwords, key files and Item 1 keep 4,194,304."
+FILE_LIMIT = 16_777_216  # read or written
+PAYLOAD_LIMIT = 16_777_216  # read or written
+PASSWORD_LIMIT = 4_194_304
+KEY_FILE_LIMIT = 4_194_304
+STREAM_LIMIT = 4_194_304  # Item 1: the inner key; position plus length
+# Item 7: "a hash message to 33,554,432 and the written block to 1,048,576, the size KeePass uses". R: "Raised: file,
+# payload, text, hash or tag message, written block."
+MESSAGE_LIMIT = 33_554_432  # one hash or tag message in all
+WRITTEN_BLOCK = 1_048_576  # bytes of ciphertext. R: it "binds the writer alone. The readers take blocks of any size"
+# R: "Not raised: ... the PC programs' 65,536, rounds."
 ROUNDS_LIMIT = 4_000_000
-WRITTEN_BLOCK = 16_384  # bytes of ciphertext in a written block
 PROGRAM_LIMIT = 65_536  # a PC program's input
-STREAM_LIMIT = 4_194_304  # Item 1: the inner key; position plus length. R: Item 7 leaves these
 
 # Item 6: "Accept V 0x13, S of 8 to 64 bytes, I 1 to 64, M 8,192 to 67,108,864, P 1 to 16, M at least 8,192 times P."
 ARGON2_VERSION = 0x13

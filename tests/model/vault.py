@@ -1,6 +1,6 @@
 """The file behind the header: the whole opener, the plain opener of demand 3, the writer.
 
-Document 01, "File after the header"; document 02, Item 6.
+Document 01, "File after the header"; document 02, Items 6 and 7.
 """
 
 from dataclasses import dataclass, replace
@@ -8,7 +8,8 @@ from dataclasses import dataclass, replace
 from . import dictionary, header as outer, keys
 from .limits import (
     AFTER_END, ARGON2_VERSION, BLOCK_TAG, BYTES_AFTER, CUT_SHORT, FILE_LIMIT, HEADER_HASH, HEADER_TAG, LENT_TOO_SHORT,
-    PADDING, ROUNDS, ROUNDS_LIMIT, SIZE, UNLISTED_ALGORITHM, VERSION, WRITTEN_BLOCK, Refusal, int32, require, within,
+    PADDING, PAYLOAD_LIMIT, ROUNDS, ROUNDS_LIMIT, SIZE, UNLISTED_ALGORITHM, VERSION, WRITTEN_BLOCK, Refusal, int32,
+    require, within,
 )
 from .primitives import cbc_decrypt, cbc_encrypt, chacha20, sha256
 
@@ -39,7 +40,7 @@ def start(data, t):
 
 def block(data, at, number, base):
     """ "36 bytes present (2), negative size (5), data present (2), tag (14)": the block's data and the place behind
-    it."""
+    it. R: "The readers take blocks of any size"."""
     require(at + BLOCK_HEAD <= len(data), CUT_SHORT)
     size = int32(data, at + 32)
     require(size >= 0, SIZE)
@@ -216,9 +217,9 @@ def written_block(base, number, content):
     return keys.block_tag(base, number, size, content) + size + content
 
 
-def written_blocks(base, ciphertext):
+def written_blocks(base, ciphertext, most=WRITTEN_BLOCK):
     """ "all data blocks are full except perhaps the last"; then the closing block. R: there is no empty data block."""
-    contents = [ciphertext[at : at + WRITTEN_BLOCK] for at in range(0, len(ciphertext), WRITTEN_BLOCK)]
+    contents = [ciphertext[at : at + most] for at in range(0, len(ciphertext), most)]
     return b"".join(written_block(base, number, content) for number, content in enumerate(contents + [b""]))
 
 
@@ -264,11 +265,13 @@ def write(minor, cipher, seed, nonce, kdf, custom, t, plain, lent=None):
     figures_check()
     if custom:
         dictionary.items(custom)
-    within(len(plain), FILE_LIMIT)
+    within(len(plain), PAYLOAD_LIMIT)
     header_bytes = written_header(minor, cipher, seed, nonce, kdf_dictionary(), custom)
     base = keys.tag_base(seed, t)
     ciphertext = encryption(name, keys.cipher_key(seed, t), nonce, plain)
     made = header_bytes + sha256(header_bytes) + keys.header_tag(base, header_bytes) + written_blocks(base, ciphertext)
-    within(len(made), FILE_LIMIT)  # "an input, file to be written or message is over its limit"
+    # "an input, file to be written or message is over its limit". R: "A payload within the limit whose file is not is
+    # 1."
+    within(len(made), FILE_LIMIT)
     room(lent, len(made))
     return made
