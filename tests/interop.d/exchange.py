@@ -187,5 +187,6 @@ def write(driver, path, credentials, form, payload, original=None):
     other_path.write_bytes(library.changed_in_front(driver, other))
     refuses("File::KDBX", peers.perl, "try", other_path, credentials)
     blocks = library.block_sizes(file, driver.ask("header", data=file)["length"])
+    same("the blocks before the last", blocks[:-2], [library.WRITTEN_BLOCK] * (len(blocks) - 2))
     note = "" if other == file else "(File::KDBX: another)"
     return figures_of(form["minor"], form["cipher"], blocks, file, vault, by, note)

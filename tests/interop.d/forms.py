@@ -29,11 +29,13 @@ BASE = Credentials("base", "base", None)
 DATA = {"terminal": "bench ä", "revision": "7"}
 # Of the data blocks of a vault that File::KDBX writes; 1 MiB is its own and KeePassXC's.
 BLOCKS = (17, 33, 1000, 16_384, None)
-# Of the attachments of a vault that File::KDBX writes, and of one that KeePassXC adds: the last is past a block.
+# Of the attachments of a vault that File::KDBX writes, and of one that KeePassXC or pykeepass adds: the last is past a
+# block of theirs.
 SIZES = ((), (0, 1, 300), (40_000, 17, 1))
 ADDED = (2560, 2560, 33, 2560, 1_300_000)
-# Of a payload written here: as it comes; the last that AES puts into one block; the last of ChaCha20; two; many.
-PAYLOADS = (None, 16_383, 16_384, 30_000, 300_000)
+# Of a payload written here: as it comes; two blocks of AES before document 02's Item 7; the last that AES puts into one
+# block; the last of ChaCha20; three blocks.
+PAYLOADS = (None, 16_384, 1_048_575, 1_048_576, 2_500_000)
 
 
 @dataclasses.dataclass(frozen=True)
@@ -54,6 +56,16 @@ class Form:
     @property
     def algorithm(self):
         return (documents.CHACHA20, documents.SALSA20)[self.turn % 2]
+
+    @property
+    def sizes(self):
+        """Of the attachments that File::KDBX writes."""
+        return SIZES[self.turn // 2 % 3]
+
+    @property
+    def added(self):
+        """The size of the attachment that KeePassXC or pykeepass adds."""
+        return ADDED[self.turn % 5]
 
     def bytes_of(self, what, size):
         return random.Random(f"{self.name} {what}").randbytes(size)
@@ -96,14 +108,14 @@ def make_file_kdbx(path, form, credentials, end=True):
     custom = [["text", "püblic"], ["number", 7], ["large", 2**40], ["yes", True], ["bytes", {"bytes": "00ff"}]]
     asked = {"minor": form.minor, "cipher": form.cipher, "kdf": form.kdf, "algorithm": form.algorithm}
     asked |= {"block": BLOCKS[form.turn % 5], "end": end, "custom": custom if form.turn % 3 else [], "data": DATA}
-    peers.perl("make", path, credentials, **asked, entries=form.entries(SIZES[form.turn // 2 % 3]))
+    peers.perl("make", path, credentials, **asked, entries=form.entries(form.sizes))
 
 
 def make_keepassxc(path, form, credentials):
     """A vault that KeePassXC writes: one of File::KDBX, to which it gives credentials, a group and an entry."""
     make_file_kdbx(path, form, BASE)
     content = path.with_suffix(".content")
-    content.write_bytes(form.bytes_of("content", ADDED[form.turn % 5]))
+    content.write_bytes(form.bytes_of("content", form.added))
     peers.set_credentials(path, BASE, credentials)
 
     def change(command, *arguments, **more):
@@ -123,7 +135,7 @@ def make_pykeepass(path, form, credentials):
     """A vault that pykeepass writes: one of File::KDBX, to which it gives credentials and an entry."""
     make_file_kdbx(path, form, BASE)
     entry = {"title": "Py entry", "username": "py user", "password": f"py-secret-€-{form.name}", "notes": "nöte"}
-    entry |= {"url": "https://example.org/py", "attachments": {"content.bin": form.bytes_of("content", 2560)}}
+    entry |= {"url": "https://example.org/py", "attachments": {"content.bin": form.bytes_of("content", form.added)}}
     peers.pykeepass("make", path, credentials, before=BASE.password, entry=entry)
 
 

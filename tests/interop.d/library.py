@@ -8,6 +8,7 @@ import subprocess
 DRIVER = pathlib.Path(__file__).resolve().parent.parent / "driver"
 BEHIND_HEADER = 64  # the header's hash and tag
 BLOCK_HEAD = 36  # a block's tag and size
+WRITTEN_BLOCK = 1_048_576  # the data of a block that is written here, but for the last
 
 
 class Refused(Exception):
