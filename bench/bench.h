@@ -36,11 +36,10 @@ struct family {
     int (*check)(void);
 };
 
-#define MESSAGE_LIMIT 8388608
 #define RESULT_LIMIT 1048576
 
 // What the rows work on: a message of one byte over the limit, a key, and the results of both sides.
-extern uint8_t message[MESSAGE_LIMIT + 1], key[64], ours[RESULT_LIMIT], peers[RESULT_LIMIT];
+extern uint8_t message[KDBX4_MESSAGE_LIMIT + 1], key[64], ours[RESULT_LIMIT], peers[RESULT_LIMIT];
 
 // Whether both results agree in their first `n` bytes; says so where they do not.
 int same(const char *what, size_t length, size_t n);

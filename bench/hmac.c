@@ -22,11 +22,12 @@ static int check(void) {
         ours_hmac(n), peer_hmac(n);
         if (!same("hmac-sha256", n, 32)) return 0;
     }
-    if (!check_key(MESSAGE_LIMIT, MESSAGE_LIMIT)) return 0;
+    if (!check_key(KDBX4_MESSAGE_LIMIT, KDBX4_MESSAGE_LIMIT)) return 0;
     untouched();
-    if (!refused("a message past the limit", kdbx4_hmac_sha256(key, 64, message, MESSAGE_LIMIT + 1, ours), 1)) return 0;
+    uint8_t number = kdbx4_hmac_sha256(key, 64, message, KDBX4_MESSAGE_LIMIT + 1, ours);
+    if (!refused("a message past the limit", number, 1)) return 0;
     untouched();
-    return refused("a key past the limit", kdbx4_hmac_sha256(message, MESSAGE_LIMIT + 1, key, 64, ours), 1);
+    return refused("a key past the limit", kdbx4_hmac_sha256(message, KDBX4_MESSAGE_LIMIT + 1, key, 64, ours), 1);
 }
 
 static const struct row rows[] = {

@@ -8,8 +8,9 @@ extern __typeof__(mbedtls_aes_setkey_enc) full_mbedtls_aes_setkey_enc;
 extern __typeof__(mbedtls_aes_setkey_dec) full_mbedtls_aes_setkey_dec;
 extern __typeof__(mbedtls_aes_crypt_cbc) full_mbedtls_aes_crypt_cbc;
 
-// The vault that the rows open, what both sides write, and ciphertext on its way into blocks.
-static uint8_t file[FILE_LIMIT], opened[FILE_LIMIT], peer_opened[FILE_LIMIT], text[FILE_LIMIT + 16];
+// The vault that the rows open, with a byte more, what both sides write, and ciphertext on its way into blocks.
+static uint8_t file[KDBX4_FILE_LIMIT + 1], text[KDBX4_FILE_LIMIT + 16];
+static uint8_t opened[KDBX4_FILE_LIMIT], peer_opened[KDBX4_FILE_LIMIT];
 static struct {
     enum cipher cipher;
     size_t block, payload, header, length;
@@ -141,6 +142,21 @@ static int check_refusal(size_t at, uint8_t expected) {
     return kept && closed && steps == expected ? 1 : wrong("a changed byte");
 }
 
+// The longest vault, in blocks of 1 MiB. A byte more is refused, whole and by steps.
+static int check_longest(enum cipher cipher) {
+    static const size_t longest[2] = {16776319, 16776337};
+    size_t count = 77;
+    if (!check_vault(cipher, 1 << 20, longest[cipher])) return 0;
+    if (made.length + 16 <= KDBX4_FILE_LIMIT) return wrong("not the longest");
+    untouched();
+    uint8_t number = kdbx4_open(file, KDBX4_FILE_LIMIT + 1, transformed, ours, sizeof ours, &count);
+    if (!refused("a file past the limit", number, 1) || count != 77) return 0;
+    made.length = KDBX4_FILE_LIMIT + 1;
+    number = open_steps(sizeof opened);
+    made.length = 0;
+    return number == 1 ? 1 : wrong("opened by steps past the limit");
+}
+
 static int check(void) {
     static const size_t blocks[] = {1, 16, 17, 1000, 16384, 1 << 20};
     for (enum cipher cipher = AES; cipher <= CHACHA20; cipher++) {
@@ -148,6 +164,7 @@ static int check(void) {
             for (size_t n = 0; n <= 3000; n = n * 5 / 4 + 1)
                 if (!check_vault(cipher, blocks[b], n)) return 0;
         if (!check_vault(cipher, 16384, 100000) || !check_vault(cipher, 1 << 20, 3499880)) return 0;
+        if (!check_vault(cipher, 1 << 20, LARGE) || !check_longest(cipher)) return 0;
         if (!check_vault(cipher, 1000, 5000)) return 0;
         if (!check_refusal(0, 3) || !check_refusal(made.header, 12) || !check_refusal(made.header + 32, 13)) return 0;
         if (!check_refusal(made.header + 64, 14) || !check_refusal(made.length - 2000, 14)) return 0;
@@ -175,27 +192,29 @@ OPENS(chacha20_16B, CHACHA20, 16)
 // The payload of a file of about so many bytes.
 #define IN(size, block) ((size_t)(size) * (block) / ((block) + 36))
 #define ROW(name, goal, payload, ours, peer) {name, goal, "byte", payload, payload, ours, peer}
-#define WHOLE 3500000
-#define HALF 1750000
 
 static const struct row rows[] = {
     ROW("open-aes-1MiB", "1.10", IN(WHOLE, 1 << 20), whole_aes_1MiB, peer_aes_1MiB),
+    ROW("open-aes-1MiB-large", "1.10", IN(LARGE, 1 << 20), whole_aes_1MiB, peer_aes_1MiB),
     ROW("open-aes-16KiB", "1.10", IN(WHOLE, 16384), whole_aes_16KiB, peer_aes_16KiB),
     ROW("open-aes-16KiB-half", "1.10", IN(HALF, 16384), whole_aes_16KiB, peer_aes_16KiB),
     ROW("open-aes-1000B", "-", IN(WHOLE, 1000), whole_aes_1000B, peer_aes_1000B),
     ROW("open-aes-16B", "-", IN(WHOLE, 16), whole_aes_16B, peer_aes_16B),
     ROW("open-aes-16B-half", "-", IN(HALF, 16), whole_aes_16B, peer_aes_16B),
     ROW("open-aes-steps-1MiB", "1.10", IN(WHOLE, 1 << 20), steps_aes_1MiB, peer_aes_1MiB),
+    ROW("open-aes-steps-1MiB-large", "1.10", IN(LARGE, 1 << 20), steps_aes_1MiB, peer_aes_1MiB),
     ROW("open-aes-steps-16KiB", "1.10", IN(WHOLE, 16384), steps_aes_16KiB, peer_aes_16KiB),
     ROW("open-aes-steps-16KiB-half", "1.10", IN(HALF, 16384), steps_aes_16KiB, peer_aes_16KiB),
     ROW("open-aes-steps-1000B", "-", IN(WHOLE, 1000), steps_aes_1000B, peer_aes_1000B),
     ROW("open-aes-steps-16B", "-", IN(WHOLE, 16), steps_aes_16B, peer_aes_16B),
     ROW("open-aes-steps-16B-half", "-", IN(HALF, 16), steps_aes_16B, peer_aes_16B),
     ROW("open-chacha20-1MiB", "1.10", IN(WHOLE, 1 << 20), whole_chacha20_1MiB, peer_chacha20_1MiB),
+    ROW("open-chacha20-1MiB-large", "1.10", IN(LARGE, 1 << 20), whole_chacha20_1MiB, peer_chacha20_1MiB),
     ROW("open-chacha20-16KiB", "1.10", IN(WHOLE, 16384), whole_chacha20_16KiB, peer_chacha20_16KiB),
     ROW("open-chacha20-1000B", "-", IN(WHOLE, 1000), whole_chacha20_1000B, peer_chacha20_1000B),
     ROW("open-chacha20-16B", "-", IN(WHOLE, 16), whole_chacha20_16B, peer_chacha20_16B),
     ROW("open-chacha20-steps-1MiB", "1.10", IN(WHOLE, 1 << 20), steps_chacha20_1MiB, peer_chacha20_1MiB),
+    ROW("open-chacha20-steps-1MiB-large", "1.10", IN(LARGE, 1 << 20), steps_chacha20_1MiB, peer_chacha20_1MiB),
     ROW("open-chacha20-steps-16KiB", "1.10", IN(WHOLE, 16384), steps_chacha20_16KiB, peer_chacha20_16KiB),
     ROW("open-chacha20-steps-1000B", "-", IN(WHOLE, 1000), steps_chacha20_1000B, peer_chacha20_1000B),
     ROW("open-chacha20-steps-16B", "-", IN(WHOLE, 16), steps_chacha20_16B, peer_chacha20_16B),

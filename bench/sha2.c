@@ -21,11 +21,11 @@ static int check(void) {
         if (!check_length(n)) return 0;
     for (size_t n = 4000; n < 1100000; n = n * 3 + 1)
         if (!check_length(n)) return 0;
-    if (!check_length(MESSAGE_LIMIT)) return 0;
+    if (!check_length(KDBX4_MESSAGE_LIMIT)) return 0;
     untouched();
-    if (!refused("sha256 past the limit", kdbx4_sha256(message, MESSAGE_LIMIT + 1, ours), 1)) return 0;
+    if (!refused("sha256 past the limit", kdbx4_sha256(message, KDBX4_MESSAGE_LIMIT + 1, ours), 1)) return 0;
     untouched();
-    return refused("sha512 past the limit", kdbx4_sha512(message, MESSAGE_LIMIT + 1, ours), 1);
+    return refused("sha512 past the limit", kdbx4_sha512(message, KDBX4_MESSAGE_LIMIT + 1, ours), 1);
 }
 
 static const struct row rows[] = {

@@ -7,8 +7,12 @@
 #include <mbedtls/sha256.h>
 #include <mbedtls/sha512.h>
 
-#define FILE_LIMIT 4194304
 #define HEADER_NUMBER UINT64_MAX
+
+// About what the vaults of the rows have: most rows, `-half`, `-large`.
+#define WHOLE 3500000
+#define HALF 1750000
+#define LARGE 16000000
 
 enum cipher { AES, CHACHA20 };
 

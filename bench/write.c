@@ -1,14 +1,14 @@
 // Writing a vault, against the same work over mbedTLS: the header's hash and tag, the encryption of each block, and its
-// tag. The peer's header is made beforehand: it copies that. Blocks have 16,384 bytes, as document 01 says.
+// tag. The peer's header is made beforehand: it copies that. Blocks have 1,048,576 bytes, as document 02's Item 7 says.
 // Its AES is aes.c without AES-NI, as in aes.c here.
 #include "vault.h"
 
-#define BLOCK 16384
+#define BLOCK 1048576
 
 extern __typeof__(mbedtls_aes_setkey_enc) full_mbedtls_aes_setkey_enc;
 extern __typeof__(mbedtls_aes_crypt_cbc) full_mbedtls_aes_crypt_cbc;
 
-static uint8_t written[FILE_LIMIT], peer_written[FILE_LIMIT], opened[FILE_LIMIT];
+static uint8_t written[KDBX4_FILE_LIMIT], peer_written[KDBX4_FILE_LIMIT], opened[KDBX4_FILE_LIMIT];
 
 // The header that the peer copies, and the cipher that it names.
 static struct {
@@ -86,11 +86,9 @@ static int check_vault(enum cipher cipher, size_t n) {
     return memcmp(opened, message, n) == 0 ? 1 : wrong("opened as another payload", n);
 }
 
-#define WHOLE 3500000
-#define HALF 1750000
-
 static int check(void) {
-    static const size_t sizes[] = {BLOCK - 17, BLOCK - 16, BLOCK - 1, BLOCK, BLOCK + 1, 2 * BLOCK, 100000, HALF, WHOLE};
+    static const size_t sizes[] = {16383, 16384,     16385,     100000, BLOCK - 17, BLOCK - 16, BLOCK - 1,
+                                   BLOCK, BLOCK + 1, 2 * BLOCK, HALF,   WHOLE,      LARGE};
     for (enum cipher cipher = AES; cipher <= CHACHA20; cipher++) {
         for (size_t n = 0; n <= 3000; n = n * 5 / 4 + 1)
             if (!check_vault(cipher, n)) return 0;
@@ -115,8 +113,10 @@ WRITES(chacha20, CHACHA20)
 static const struct row rows[] = {
     ROW("write-aes", WHOLE, ours_aes, peer_aes),
     ROW("write-aes-half", HALF, ours_aes, peer_aes),
+    ROW("write-aes-large", LARGE, ours_aes, peer_aes),
     ROW("write-chacha20", WHOLE, ours_chacha20, peer_chacha20),
     ROW("write-chacha20-half", HALF, ours_chacha20, peer_chacha20),
+    ROW("write-chacha20-large", LARGE, ours_chacha20, peer_chacha20),
     {0},
 };
 

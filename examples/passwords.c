@@ -6,9 +6,9 @@
  *
  * A protected value is base64 of bytes that the inner stream covers. The stream is not restarted between values, so
  * they are uncovered one after the other, from the first on, by one state. (A value that stands alone is uncovered by
- * kdbx4_inner_stream, from the inner key and the sum of the lengths before it.) What is found here is any start tag that
- * ends with the attribute Protected="True", as the desktop programs write it; an empty tag has no bytes of the stream,
- * and no line. A firmware would read the document properly.
+ * kdbx4_inner_stream, from the inner key and the sum of the lengths before it.) What is found here is any start tag
+ * that ends with the attribute Protected="True", as the desktop programs write it; an empty tag has no bytes of the
+ * stream, and no line. A firmware would read the document properly.
  */
 #include "vault.h"
 

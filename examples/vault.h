@@ -1,9 +1,13 @@
 /* What the examples share: a vault is read and opened with a password, block by block.
  *
  * A refusal prints its number (docs/REFUSALS.md) to standard error, and the status is 1. The transformation of the key
- * is the long part: AES-KDF runs in parts that leave time for a screen or a watchdog, Argon2 in one call. A firmware
- * would keep the file and the payload where it has room for them: neither is more than KDBX4_FILE_LIMIT bytes. To
- * Argon2 it lends the words that it can spare: 17 refuses a vault that needs more, and 64 MiB are enough for any.
+ * is the long part: AES-KDF runs in parts that leave time for a screen or a watchdog, Argon2 in one call. To Argon2 a
+ * firmware lends the words that it can spare: 17 refuses a vault that needs more, and 64 MiB are enough for any.
+ *
+ * The arrays here take every vault: 16 MiB for the file, 16 for the payload and 64 for Argon2, on the board with 128.
+ * The terminal with 8 MiB cannot hold a file of 16 MiB: it makes the arrays as large as it has room for, and refuses a
+ * longer file by itself; 17 refuses a payload that is longer than what is lent. Opening by blocks needs the file, and
+ * room for one block and 15 bytes where a block's payload is used up before the next step.
  */
 #include <stdio.h>
 #include <stdlib.h>
