@@ -3,7 +3,7 @@
 // Its AES is aes.c without AES-NI, as in aes.c here.
 #include "vault.h"
 
-#define BLOCK 1048576
+#define BLOCK KDBX4_WRITTEN_BLOCK
 
 extern __typeof__(mbedtls_aes_setkey_enc) full_mbedtls_aes_setkey_enc;
 extern __typeof__(mbedtls_aes_crypt_cbc) full_mbedtls_aes_crypt_cbc;

@@ -24,6 +24,9 @@
 #define KDBX4_MESSAGE_LIMIT 33554432
 #define KDBX4_ROUNDS_LIMIT 4000000
 
+/* The data of a block that is written, but for the last. Blocks of any size are read. */
+#define KDBX4_WRITTEN_BLOCK 1048576
+
 /* The key derivation functions, as a header's figures and the functions below number them. */
 enum { KDBX4_AES_KDF = 0, KDBX4_ARGON2D = 1, KDBX4_ARGON2ID = 2 };
 
