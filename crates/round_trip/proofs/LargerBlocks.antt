@@ -17,9 +17,8 @@ use Rattle.refusals.proofs.Laws.Limits.{block-positive, payload-raised, file-ra
 use Rattle.refusals.specs.declared.Written.the-variants.{Wrote}
 use Rattle.ciphers.specs.declared.Cipher.{Cipher}
 use Rattle.header_writer.specs.declared.Checked.the-variants.{As}
-use Rattle.vault_keys.specs.VaultKeys.{headerHash, headerTag}
 use Rattle.writer.specs.Written.{Figures, Sizes, sizes, settled, cut, blocksFrom, headerOf, fileWith, fileCut, checkedOf, writingBy, writingWith, shownWith, shown}
-use Rattle.writer.specs.Stretches.{cutLength}
+use Rattle.writer.specs.Stretches.{cutLength, summed}
 use Rattle.writer.proofs.Laws.Cut.{length-cut, length-blocks, cut-alike, count-le, count-lt}
 use Rattle.round_trip.specs.Opens.{fileKeys}
 use Rattle.round_trip.specs.LargerBlocks.{before, ciphertext, LargerBlocks}
@@ -31,7 +30,7 @@ module _ (g : Figures) (c : Cipher) (t b : List ℕ) where
   text = ciphertext g c t b
 
   abbrev front : List ℕ
-  front = headerOf g c ++ headerHash (headerOf g c) ++ headerTag (fileKeys g c t .base) (headerOf g c)
+  front = summed (fileKeys g c t .base) (headerOf g c)
 
   length-fileCut : (z : ℕ) → 0 < z → length (fileCut z g c t b) ≡ length front + cutLength z (length text)
   unfolding fileCut fileWith
