@@ -81,7 +81,8 @@ larger-blocks g t b n m h =
     let some : 0 < 16_384 = omega arith in
     let le : 16_384 ≤ writtenBlock = omega (arith, block-raised) in
     let text = ciphertext g c t b in
-    let y = still-taken g c t b before sizes payload-raised file-raised some le (w .accepted) n (w .payload-le) (w .file-le)
+    let y =
+    still-taken g c t b before sizes payload-raised file-raised some le (w .accepted) n (w .payload-le) (w .file-le)
     (w .room) in
     let now = shown-wrote sizes g c t b n _ (w .accepted) y in
     let shorter : 16_384 < length text → length (shown g t b n) < length (shownWith before g t b n) = λ o.

@@ -1,7 +1,7 @@
 -- Demand 2: whatever the writer accepts opens to the same payload under the same T, whole and block by block.
 --
--- In order: the file's parts; starts, whole and stepwise, each field of Opens; written-opens, the theorem, for blocks of
--- any positive size; writing-opens, the same from the writer's answer, for its own.
+-- In order: the file's parts; starts, whole and stepwise, each field of Opens; written-opens, the theorem, for blocks
+-- of any positive size; writing-opens, the same from the writer's answer, for its own.
 -- Assumes nothing.
 use mathlib.Core.Path.{_≡_, refl, sym, ap, ap₂, _∙_}
 use mathlib.Core.List.{List, [], _++_, append-assoc}

@@ -61,7 +61,8 @@ pub record WorkedNumbers : Type 0 where
   pub empty-chacha : (g : Figures) → Plain ChaCha20 g → (t : List ℕ) → length (fileBytes g ChaCha20 t []) ≡ 303
   pub one-chacha : (g : Figures) → Plain ChaCha20 g → (t b : List ℕ) → length b ≡ 1
       → length (fileBytes g ChaCha20 t b) ≡ 340
-  -- "AES payload 16,383: one data block"; document 02, Item 7: "AES payload 16,384 now makes one data block, file 16,743"
+  -- "AES payload 16,383: one data block"; document 02, Item 7: "AES payload 16,384 now makes one data block, file
+  -- 16,743"
   pub one-block-aes : (k : Keys) → length (k .nonce) ≡ 16 → (b : List ℕ) → length b ≡ 16_383
       → blocksOf (k .base) (encryptionBy Aes256 k b)
       ≡ blockBytes (k .base) 0 (encryptionBy Aes256 k b) ++ blockBytes (k .base) 1 []

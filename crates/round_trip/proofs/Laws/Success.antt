@@ -1,6 +1,9 @@
 -- What a writer's success says, with any sizes.
 --
--- In order: wrote-never, wrote-is (answers that differ), settled-says, success.
+-- In order:
+--   wrote-never                     a refusal is no success
+--   settled-says                    what a settled answer says of payload, file and room
+--   shown-wrote, success            the bytes of a success, and all that it says
 -- Assumes nothing.
 use mathlib.Core.Path.{_≡_, refl, ap}
 use mathlib.Core.List.{List}

@@ -63,7 +63,8 @@ pub writing-as : (g : Figures) (c : Cipher) (t b : List ℕ) (n : ℕ) → check
 unfolding writingWith writingBy
 writing-as g c t b n e = rw e
 
-shownBy-as : (g : Figures) (c : Cipher) (t b : List ℕ) (w : Written) → bytesOf w (fileBytes g c t b) ≡ shownBy writtenBlock (As c) w g t b
+shownBy-as : (g : Figures) (c : Cipher) (t b : List ℕ) (w : Written)
+    → bytesOf w (fileBytes g c t b) ≡ shownBy writtenBlock (As c) w g t b
 unfolding shownBy bytesOf
 shownBy-as g c t b (written.Wrote n) = refl
 shownBy-as g c t b (written.Refused r) = refl
@@ -79,7 +80,8 @@ pub settled-payload : (b f n : ℕ) → leb b payloadLimit ≡ false → written
 unfolding settled
 settled-payload b f n e = rw e
 
-pub settled-file : (b f n : ℕ) → leb b payloadLimit ≡ true → leb f fileLimit ≡ false → written.Refused TooLong ≡ settled sizes b f n
+pub settled-file : (b f n : ℕ) → leb b payloadLimit ≡ true → leb f fileLimit ≡ false
+    → written.Refused TooLong ≡ settled sizes b f n
 unfolding settled
 settled-file b f n e h = rw (e, h)
 
