@@ -68,8 +68,8 @@ void kdbx4_salsa20(const uint8_t key[32], const uint8_t nonce[8], uint64_t at, u
 
 /* The composite key of a password, a key file or both, or a pre-hash. A credential is given where its flag is not 0; an
  * empty password is a credential. A key file of 32 bytes is taken as it stands, one of exactly 64 hexadecimal digits is
- * decoded, any other is hashed. 1: a password or key file over KDBX4_CREDENTIAL_LIMIT; then 18: no credential, a pre-hash
- * that is not 32 bytes long, or one beside another credential. */
+ * decoded, any other is hashed. 1: a password or key file over KDBX4_CREDENTIAL_LIMIT; then 18: no credential, a
+ * pre-hash that is not 32 bytes long, or one beside another credential. */
 uint8_t kdbx4_composite(const uint8_t *password, size_t p, uint8_t has_password, const uint8_t *key_file, size_t k,
                         uint8_t has_key_file, const uint8_t *pre_hash, size_t h, uint8_t has_pre_hash, uint8_t out[32]);
 
