@@ -73,7 +73,8 @@ module _ (g : Figures) (c : Cipher) (t b : List ℕ) where
         le-ltb n (length (fileCut (r .block) g c t b)) m,
       )
 
--- THE SENTENCE
+-- THE SENTENCE. What a field supposes of the ciphertext's length goes through `omega`: another bound is refused where it
+-- does not suffice, and not because it is written otherwise.
 pub larger-blocks : LargerBlocks
 larger-blocks g t b n m h =
     let w = success before g t b n m h in
@@ -85,7 +86,7 @@ larger-blocks g t b n m h =
     still-taken g c t b before sizes payload-raised file-raised some le (w .accepted) n (w .payload-le) (w .file-le)
     (w .room) in
     let now = shown-wrote sizes g c t b n _ (w .accepted) y in
-    let shorter : 16_384 < length text → length (shown g t b n) < length (shownWith before g t b n) = λ o.
+    let less : 16_384 < length text → length (shown g t b n) < length (shownWith before g t b n) = λ o.
     rw (now, w .bytes) (cut-lt g c t b 16_384 writtenBlock some block-raised o) in
     record {
       cipher = c;
@@ -93,15 +94,15 @@ larger-blocks g t b n m h =
       file-before = w .bytes;
       file-now = now;
       taken = rw now y;
-      same = λ l. now ∙ cut-same g c t b 16_384 writtenBlock some le l ∙ sym (w .bytes);
-      other = λ o e. omega (arith, shorter o, ap length e);
-      shorter = shorter;
+      same = λ l. now ∙ cut-same g c t b 16_384 writtenBlock some le (omega (arith, l)) ∙ sym (w .bytes);
+      other = λ o e. omega (arith, less (omega (arith, o)), ap length e);
+      shorter = λ o. less (omega (arith, o));
       fewer = λ o.
           omega (
             arith,
             length-cut 16_384 some text,
             length-cut writtenBlock block-positive text,
-            count-lt 16_384 writtenBlock (length text) some block-raised o,
+            count-lt 16_384 writtenBlock (length text) some block-raised (omega (arith, o)),
           );
       opens = λ p q.
           rw (w .bytes) (written-opens 16_384 some g c t b (w .accepted) p q (omega (arith, w .file-le, file-raised)));
