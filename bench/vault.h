@@ -20,7 +20,7 @@ static const uint8_t *const transformed = key; // T, and behind it the master se
 #define SEED (key + 32)
 #define NONCE (message + 500)
 #define KDF_SEED message
-#define ROUNDS 1
+#define ROUNDS 6000
 #define MINOR 1
 
 static const char identifiers[2][17] = {"\x31\xC1\xF2\xE6\xBF\x71\x43\x50\xBE\x58\x05\x21\x6A\xFC\x5A\xFF",
@@ -74,7 +74,8 @@ static uint8_t *put_item(uint8_t *at, uint8_t type, const char *name, const void
 
 // The header of these figures, without a custom dictionary. The answer is its length.
 static size_t put_header(enum cipher cipher, uint8_t *to) {
-    uint8_t kdf[128] = {0, 1}, rounds[8] = {ROUNDS}, *end = kdf + 2;
+    uint8_t kdf[128] = {0, 1}, rounds[8], *end = kdf + 2;
+    put_le(rounds, ROUNDS, 8);
     end = put_item(end, 0x42, "$UUID", "\xC9\xD9\xF3\x9A\x62\x8A\x44\x60\xBF\x74\x0D\x08\xC1\x8A\x4F\xEA", 16);
     end = put_item(end, 0x05, "R", rounds, 8);
     end = put_item(end, 0x42, "S", KDF_SEED, 32);

@@ -5,6 +5,8 @@ from digests import must
 from vectors_writer import AES, CHACHA20, le
 
 LARGE = 2**64 - 1
+# The rounds of the sample headers.
+ROUNDS = 6_000
 SEED, NONCE, KDF_SEED, T = b"\x11" * 32, b"\x22" * 16, b"\x33" * 32, bytes(range(32))
 NAMES = {AES: "aes", CHACHA20: "chacha"}
 NONCES = {AES: NONCE, CHACHA20: NONCE[:12]}

@@ -4,7 +4,7 @@ The numbers, and the dictionary in the listing, are told by hand, from document 
 cryptography, which is OpenSSL and gives RFC 9106's tags here, or a manifest's; payloads of other programs' vaults are
 decrypted by it. Files to be written are joined here.
 """
-from case_list import LARGE, NAMES, NONCE, NONCES, SEED, T
+from case_list import LARGE, NAMES, NONCE, NONCES, ROUNDS, SEED, T
 from cases_headers import FRONT, figures, header, kdf
 from cases_vaults import block, ciphertext, no_step, steps_of, tag_of
 from cryptography.hazmat.primitives.kdf.argon2 import Argon2d, Argon2id
@@ -106,7 +106,7 @@ def headers(cases):
         head = header(f11=data)
         cases.add("header", f"Argon2, {name}", figures(head, 1, "chacha", said), data=head)
     aes_kdf = header(f11=kdf(more=item(0x42, b"K", b"") + item(0x04, b"A", bytes(4)) + item(0x04, b"V", le(0x10, 4))))
-    said = {"kind": "aeskdf", "S": b"\x33" * 32, "R": 1}
+    said = {"kind": "aeskdf", "S": b"\x33" * 32, "R": ROUNDS}
     cases.add("header", "AES-KDF with K, A and V", figures(aes_kdf, 1, "chacha", said), data=aes_kdf)
     for name, (no, data) in WRONG.items():
         cases.add("header", f"Argon2, {name}", no, data=header(f11=data))

@@ -3,12 +3,12 @@
 The numbers are told by hand, from document 01; its worked listing stands here as it has it. What the headers of other
 programs' vaults say is the manifest's, or read from the fields.
 """
-from case_list import KDF_SEED, NONCE, SEED, field
+from case_list import KDF_SEED, NONCE, ROUNDS, SEED, field
 from digests import must
 from vectors_writer import AES, AES_KDF, CHACHA20, CUSTOM, DICTIONARIES, ITEM, dictionary, header_of, item, le
 
 
-def kdf(uuid=AES_KDF, rounds=1, seed=KDF_SEED, more=b""):
+def kdf(uuid=AES_KDF, rounds=ROUNDS, seed=KDF_SEED, more=b""):
     return dictionary(item(0x42, b"$UUID", uuid), item(5, b"R", le(rounds, 8)), item(0x42, b"S", seed), more)
 
 
@@ -22,7 +22,7 @@ LISTING = """\
 030400000000000000
 04200000001111111111111111111111111111111111111111111111111111111111111111
 070C000000222222222222222222222222
-0B5D00000000014205000000245555494410000000C9D9F39A628A4460BF740D08C18A4FEA05010000005208000000010000000000000042010000\
+0B5D00000000014205000000245555494410000000C9D9F39A628A4460BF740D08C18A4FEA05010000005208000000701700000000000042010000\
 005320000000333333333333333333333333333333333333333333333333333333333333333300
 00040000000D0A0D0A
 """
@@ -105,7 +105,7 @@ WRONG_HEADERS = {
 
 def headers(cases, entries):
     must(len(header()) == 203 and len(FIELDS[11]) == 93, "worked lengths")
-    worked = figures(header(), 1, "chacha", aes_kdf(header(), 1))
+    worked = figures(header(), 1, "chacha", aes_kdf(header(), ROUNDS))
     cases.add("header", "worked", worked, data=header())
     cases.add("header", "worked, bytes behind", worked, data=header() + b"behind")
     most = header(f11=kdf(rounds=4_000_000))

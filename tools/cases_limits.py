@@ -112,7 +112,7 @@ def inner_written(cases):
 
 
 # Vaults in blocks of 16,384 bytes, as the writer cut them before Item 7, and their lengths. The first is the file that
-# document 01's worked length is of, and has the SHA-256 that it was written with.
+# document 01's worked length is of: with one round it has the SHA-256 that it was written with.
 FORMER = {(AES, 16_384): 16_779, (CHACHA20, 16_500): 267 + 16_500 + 3 * 36}
 FORMER_WORKED = "43c7c90079c803bd6fb489b9562dda398a0701861477868d7172c2f46b3f96cd"
 
@@ -122,7 +122,8 @@ def former_blocks(cases):
         payload, text, name = pattern(n), ciphertext(cipher, pattern(n)), f"{NAMES[cipher]} {n} in former blocks"
         sizes = [16_384, len(text) - 16_384]
         file = sealed(cipher, text, *sizes)
-        must(len(file) == length and (cipher == CHACHA20 or sha256(file).hex() == FORMER_WORKED), name)
+        must(len(file) == length, name)
+        must(cipher == CHACHA20 or sha256(sealed(cipher, text, *sizes, rounds=1)).hex() == FORMER_WORKED, name)
         cases.add("open", name, {"length": n, "payload": digest(payload)}, data=file, T=T, lent=n)
         told = [one | {"bytes": digest(one["bytes"])} for one in steps_of(cipher, payload, [*sizes, 0])]
         cases.add("steps", name, {"steps": told}, data=file, T=T, lents=[LARGE] * 3)

@@ -6,7 +6,7 @@ writer that vectors_writer.py has of its own.
 """
 import hmac
 
-from case_list import KDF_SEED, LARGE, NAMES, NONCE, NONCES, SEED, T
+from case_list import KDF_SEED, LARGE, NAMES, NONCE, NONCES, ROUNDS, SEED, T
 from digests import must, sha256, sha512
 from cryptography.hazmat.primitives.ciphers import Cipher, algorithms, modes
 from messages import pattern
@@ -25,8 +25,8 @@ def block(i, data=b"", size=None):
     return tag_of(i, le(i, 8), size, data) + size + data
 
 
-def front(cipher):
-    head = header_of(1, cipher, SEED, NONCES[cipher], KDF_SEED, 1, b"")
+def front(cipher, rounds=ROUNDS):
+    head = header_of(1, cipher, SEED, NONCES[cipher], KDF_SEED, rounds, b"")
     return head + sha256(head) + tag_of(2**64 - 1, head)
 
 
@@ -40,14 +40,14 @@ def cbc(plain):
     return mode.update(plain) + mode.finalize()
 
 
-def sealed(cipher, text, *sizes):
+def sealed(cipher, text, *sizes, rounds=ROUNDS):
     """A vault of this ciphertext in blocks of these sizes."""
     blocks, at = [], 0
     for i, size in enumerate(sizes):
         blocks.append(block(i, text[at : at + size]))
         at += size
     must(at == len(text), "sizes")
-    return front(cipher) + b"".join(blocks) + block(len(sizes))
+    return front(cipher, rounds) + b"".join(blocks) + block(len(sizes))
 
 
 def flipped(data, at):
@@ -179,7 +179,7 @@ def made_steps(cases):
 GIVEN = {(AES, 0): 359, (CHACHA20, 0): 303, (CHACHA20, 1): 340, (AES, 16_384): 16_743, (CHACHA20, 16_384): 16_723}
 
 
-def asked_of(cipher, payload, minor=1, rounds=1, custom=b"", **changed):
+def asked_of(cipher, payload, minor=1, rounds=ROUNDS, custom=b"", **changed):
     """A request to write, and the file."""
     nonce = NONCES[cipher]
     file = write(minor, cipher, SEED, nonce, KDF_SEED, rounds, custom, T, payload, LARGE)

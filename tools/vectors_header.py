@@ -37,8 +37,10 @@ def item(kind, name, value, name_size=None, size=None):
     return bytes([kind]) + field(0, name, name_size)[1:] + field(0, value, size)[1:]
 
 
+# The rounds of the sample headers.
+ROUNDS = 6_000
 UUID = item(0x42, b"$UUID", AES_KDF)
-R = item(0x05, b"R", number(1, 8))
+R = item(0x05, b"R", number(ROUNDS, 8))
 S = item(0x42, b"S", b"\x33" * 32)
 
 
@@ -214,8 +216,8 @@ def kdf(cases):
     kdf_case("seed-as-string", dictionary(UUID, R, item(0x18, b"S", bytes(32))), 10)
     kdf_case("seed-of-31", dictionary(UUID, R, item(0x42, b"S", bytes(31))), 10)
     kdf_case("no-rounds", dictionary(UUID, S), 10)
-    kdf_case("rounds-as-uint32", dictionary(UUID, S, item(0x04, b"R", number(1, 4))), 10)
-    kdf_case("rounds-as-int64", dictionary(UUID, S, item(0x0D, b"R", number(1, 8))), 10)
+    kdf_case("rounds-as-uint32", dictionary(UUID, S, item(0x04, b"R", number(ROUNDS, 4))), 10)
+    kdf_case("rounds-as-int64", dictionary(UUID, S, item(0x0D, b"R", number(ROUNDS, 8))), 10)
     kdf_case("rounds-4000001", rounds(4_000_001), 11)
     kdf_case("rounds-2^63", rounds(2**63), 11)
     kdf_case("rounds-2^64-1", rounds(2**64 - 1), 11)

@@ -22,7 +22,9 @@ from key_files import key_file_part
 from sample import PASSWORD, transformed
 from vaults import text_field
 from digests import must, sha256
-from vectors_vault import AES, FILE_LIMIT, Keys, blocks, field, flipped, front, header, number, open_whole, text_of
+from vectors_vault import (
+    AES, FILE_LIMIT, ROUNDS, Keys, blocks, field, flipped, front, header, number, open_whole, text_of
+)
 
 ROOT = pathlib.Path(__file__).parent.parent
 DATA = ROOT / "crates" / "open" / "data"
@@ -172,7 +174,7 @@ def hex_key_file():
 def former_rule(cases):
     """A vault that was saved with that key file under document 01's rule, which hashed it: the file's hash opens it."""
     key_file, seed = hex_key_file(), bytes(32)
-    t = transformed(sha256(sha256(b"a"), sha256(key_file)), b"\x33" * 32, 1)
+    t = transformed(sha256(sha256(b"a"), sha256(key_file)), b"\x33" * 32, ROUNDS)
     c = Keys(CHACHA20, bytes(12), seed, t)
     payload = field(1, number(3, 4)) + field(2, bytes(64)) + field(0, b"") + b"<KeePassFile/>"
     f = front(c, header(c, f4=seed)) + blocks(c, text_of(c, payload), [16_384])
@@ -182,8 +184,8 @@ def former_rule(cases):
 
 
 def made(cases):
-    """Vaults that are tagged rightly and end wrongly, of one round."""
-    t = transformed(composite(b"a", None), b"\x33" * 32, 1)
+    """Vaults that are tagged rightly and end wrongly."""
+    t = transformed(composite(b"a", None), b"\x33" * 32, ROUNDS)
     a, c = Keys(AES, bytes(16), bytes(32), t), Keys(CHACHA20, bytes(12), bytes(32), t)
     wrong = a.crypt(bytes(16), False)
     cases.case("wrong_padding", 16, front(a, header(a, f4=bytes(32))) + blocks(a, wrong, [16]), b"a")

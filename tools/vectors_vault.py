@@ -239,6 +239,9 @@ class Cases:
 
 # what is made here
 
+ROUNDS = 6_000
+
+
 def field(id_, value, size=None):
     return bytes([id_]) + number(len(value) if size is None else size, 4) + value
 
@@ -247,7 +250,7 @@ def item(kind, name, value):
     return bytes([kind]) + field(0, name)[1:] + field(0, value)[1:]
 
 
-def kdf(uuid=AES_KDF, rounds=1, seed=b"\x33" * 32, more=b""):
+def kdf(uuid=AES_KDF, rounds=ROUNDS, seed=b"\x33" * 32, more=b""):
     items = item(0x42, b"$UUID", uuid), item(5, b"R", number(rounds, 8)), item(0x42, b"S", seed), more
     return b"\0\1" + b"".join(items) + b"\0"
 
