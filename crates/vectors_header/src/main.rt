@@ -19,10 +19,10 @@ fn main() {
 }
 
 // Room for all lines.
-fn table() -> [u8; 131_072]
-    ensures { λ r. ⌜ 131072 ≡ length r ⌝ }
+fn table() -> [u8; 262_144]
+    ensures { λ r. ⌜ 262144 ≡ length r ⌝ }
 {
-    [0; 131_072]
+    [0; 262_144]
 }
 
 // Room for any text (crate listing, Laws.Text, length-text).
