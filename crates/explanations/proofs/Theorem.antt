@@ -32,6 +32,7 @@ use Rattle.refusals.specs.declared.Refusal.the-variants.{
   NoRoom,
   WrongCredential,
   OutOfSequence,
+  TooFewRounds,
   FigureOutside,
 }
 use Rattle.explanations.specs.Sentences.{ascii, sentence, held}
@@ -57,6 +58,7 @@ sentence-room WrongPadding = omega arith
 sentence-room NoRoom = omega arith
 sentence-room WrongCredential = omega arith
 sentence-room OutOfSequence = omega arith
+sentence-room TooFewRounds = omega arith
 sentence-room FigureOutside = omega arith
 
 pub sentence-shown : (r : Refusal) → take (held (sentence r) .length) (held (sentence r) .text) ≡ sentence r

@@ -12,7 +12,7 @@ use Prim.Native.String as string
 use lib.ListN.{length, replicate}
 use Rattle.slices.specs.Over.{laid}
 use Rattle.refusals.specs.declared.Refusal.{Refusal}
-use Rattle.refusals.specs.declared.Refusal.the-variants.{TooLong, CutShort, WrongSignature, WrongVersion, WrongSize, Repeated, UnknownField, Absent, Unlisted, BrokenDictionary, TooManyRounds, HeaderHash, HeaderTag, BlockTag, TrailingBytes, WrongPadding, NoRoom, WrongCredential, OutOfSequence, FigureOutside}
+use Rattle.refusals.specs.declared.Refusal.the-variants.{TooLong, CutShort, WrongSignature, WrongVersion, WrongSize, Repeated, UnknownField, Absent, Unlisted, BrokenDictionary, TooManyRounds, HeaderHash, HeaderTag, BlockTag, TrailingBytes, WrongPadding, NoRoom, WrongCredential, OutOfSequence, TooFewRounds, FigureOutside}
 use Rattle.explanations.specs.declared.Sentence.{Sentence}
 
 -- the bytes of a text of ASCII
@@ -71,6 +71,9 @@ sentence WrongCredential =
 sentence OutOfSequence =
     ascii "A step came after the end, or a key was asked for too early. Start again; if it happens again, "
     ++ ascii "tell whoever maintains this program."
+sentence TooFewRounds =
+    ascii "The vault asks for fewer than 6,000 rounds. Raise them in a desktop password manager "
+    ++ ascii "and save it."
 sentence FigureOutside =
     ascii "The vault's Argon2 settings are outside what this program takes: salt 8 to 64 bytes, 1 to 64 passes, "
     ++ ascii "8 KiB a lane to 64 MiB, 1 to 16 lanes. Change them in a desktop password manager."

@@ -86,6 +86,9 @@ pub fn explain(why: Refusal) -> Sentence
         Refusal::OutOfSequence => return held(
             b"A step came after the end, or a key was asked for too early. Start again; if it happens again, tell whoever maintains this program.",
         ),
+        Refusal::TooFewRounds => return held(
+            b"The vault asks for fewer than 6,000 rounds. Raise them in a desktop password manager and save it.",
+        ),
         Refusal::FigureOutside => return held(
             b"The vault's Argon2 settings are outside what this program takes: salt 8 to 64 bytes, 1 to 64 passes, 8 KiB a lane to 64 MiB, 1 to 16 lanes. Change them in a desktop password manager.",
         ),

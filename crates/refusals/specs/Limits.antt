@@ -1,5 +1,6 @@
 -- Document 01, "Numbers of the terminal": the most of each thing, in bytes but for the rounds. A limit is inclusive.
 -- Document 02, Item 1: "1 where the key's length or position plus length passes 4,194,304"          streamLimit
+-- Document 02, Item 3: "Reader and writer shall turn away fewer than 6,000 rounds"                 roundsLeast
 -- Document 02, Item 7: "raise the one library's file and payload limits to 16,777,216 bytes, .. a hash message to
 --   33,554,432 and the written block to 1,048,576"                fileLimit, payloadLimit, messageLimit, writtenBlock
 --   "Passwords, key files and Item 1 keep 4,194,304"                       passwordLimit, keyFileLimit, streamLimit
@@ -34,6 +35,10 @@ messageLimit = 33_554_432
 -- rounds of the key transformation
 unfoldable pub roundsLimit : ℕ
 roundsLimit = 4_000_000
+
+-- the least rounds of AES-KDF in a vault that is read or written
+unfoldable pub roundsLeast : ℕ
+roundsLeast = 6_000
 
 -- the inner stream (document 02, Item 1): its key, and where a stretch of it ends
 unfoldable pub streamLimit : ℕ

@@ -1,8 +1,9 @@
--- Document 01, "Refusal numbers": the number of each refusal. 0 is success. Document 02, Item 6: 22.
+-- Document 01, "Refusal numbers": the number of each refusal. 0 is success. Document 02, Items 3 and 6: 20
+-- and 22.
 -- Assumes nothing.
 use Prim.Native.Nat.{ℕ}
 use Rattle.refusals.specs.declared.Refusal.{Refusal}
-use Rattle.refusals.specs.declared.Refusal.the-variants.{TooLong, CutShort, WrongSignature, WrongVersion, WrongSize, Repeated, UnknownField, Absent, Unlisted, BrokenDictionary, TooManyRounds, HeaderHash, HeaderTag, BlockTag, TrailingBytes, WrongPadding, NoRoom, WrongCredential, OutOfSequence, FigureOutside}
+use Rattle.refusals.specs.declared.Refusal.the-variants.{TooLong, CutShort, WrongSignature, WrongVersion, WrongSize, Repeated, UnknownField, Absent, Unlisted, BrokenDictionary, TooManyRounds, HeaderHash, HeaderTag, BlockTag, TrailingBytes, WrongPadding, NoRoom, WrongCredential, OutOfSequence, TooFewRounds, FigureOutside}
 use Rattle.refusals.specs.declared.Outcome.{Outcome}
 use Rattle.refusals.specs.declared.Outcome.the-variants.{Accepted, Refused}
 use Rattle.refusals.specs.declared.Written.{Written}
@@ -28,6 +29,7 @@ ofRefusal WrongPadding = 16
 ofRefusal NoRoom = 17
 ofRefusal WrongCredential = 18
 ofRefusal OutOfSequence = 19
+ofRefusal TooFewRounds = 20
 ofRefusal FigureOutside = 22
 
 abbrev pub ofOutcome : Outcome → ℕ

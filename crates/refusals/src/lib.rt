@@ -1,5 +1,5 @@
 // The refusal numbers and the limits of the terminal, each once (document 01, "Refusal numbers" and "Numbers of the
-// terminal"; document 02, Item 6: 22 and the bounds of Argon2's figures).
+// terminal"; document 02, Item 3: 20 and the least rounds; Item 6: 22 and the bounds of Argon2's figures).
 //
 // An operation answers an `Outcome`, or an enum of its own with a case for a `Refusal`; what number a refusal has is
 // said here alone. The contracts cite specs/Numbers and specs/Limits.
@@ -48,6 +48,8 @@ pub enum Refusal {
     WrongCredential,
     // 19: a step after an opener's end or after a refusal that closed it; the key asked for too early
     OutOfSequence,
+    // 20: the rounds of a vault are fewer than the least
+    TooFewRounds,
     // 22: a KDF figure is outside its bounds
     FigureOutside,
 }
@@ -89,6 +91,7 @@ impl Refusal {
             Refusal::NoRoom => 17,
             Refusal::WrongCredential => 18,
             Refusal::OutOfSequence => 19,
+            Refusal::TooFewRounds => 20,
             Refusal::FigureOutside => 22,
         }
     }

@@ -1,6 +1,6 @@
 // The most that the terminal takes of each thing (document 01, "Numbers of the terminal"; document 02, Item 1: the
-// inner stream; Item 7: file, payload, message and written block), and the bounds of Argon2's figures (Item 6). A limit
-// is inclusive.
+// inner stream; Item 7: file, payload, message and written block), the least rounds of a vault (Item 3), and the bounds
+// of Argon2's figures (Item 6). A limit is inclusive.
 ghost use mathlib.Core.Path.{_≡_};
 ghost use Prim.Native.Nat.{_+_};
 ghost use lib.Dec.{leb};
@@ -18,6 +18,8 @@ pub const KEY_FILE_LIMIT: usize = 4_194_304;
 pub const MESSAGE_LIMIT: usize = 33_554_432;
 // Rounds of the key transformation.
 pub const ROUNDS_LIMIT: u64 = 4_000_000;
+// The least rounds of AES-KDF in a vault that is read or written.
+pub const ROUNDS_LEAST: u64 = 6_000;
 // The inner stream, in bytes: its key, and where a stretch of it ends.
 pub const STREAM_LIMIT: u64 = 4_194_304;
 // Ciphertext in a block that is written, in bytes.
@@ -84,6 +86,13 @@ pub fn rounds_fit(n: u64) -> bool
     ensures { λ r. ⌜ r ≡ leb n limits.roundsLimit ⌝ }
 {
     n <= ROUNDS_LIMIT
+}
+
+// Whether so many rounds are enough for a vault.
+pub fn rounds_suffice(n: u64) -> bool
+    ensures { λ r. ⌜ r ≡ leb limits.roundsLeast n ⌝ }
+{
+    ROUNDS_LEAST <= n
 }
 
 // Whether the key of an inner stream may have so many bytes.

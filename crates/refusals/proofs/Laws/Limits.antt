@@ -3,7 +3,7 @@
 --
 -- In order:
 --   message-file, message-password, message-key-file, message-stream-key, message-blocks
---   file-size, payload-size, rounds-word, stream-word, stream-some
+--   file-size, payload-size, rounds-word, rounds-some, stream-word, stream-some
 --   block-pieces, block-positive, block-size, block-file
 --   payload-raised, file-raised, block-raised
 --   Argon2Bounds, argon2Fits-bounds
@@ -14,7 +14,7 @@ use Prim.Native.Nat.{ℕ, _+_, _*_, _%_, _^_, _≤_, _<_}
 use native.Mathlib.Omega.{arith}
 use borrow.Author.Tests.{leb-true}
 use Rattle.words.proofs.Laws.Cases.{and-true}
-use Rattle.refusals.specs.Limits.{fileLimit, payloadLimit, passwordLimit, keyFileLimit, messageLimit, roundsLimit, streamLimit, writtenBlock, within, argon2Fits}
+use Rattle.refusals.specs.Limits.{fileLimit, payloadLimit, passwordLimit, keyFileLimit, messageLimit, roundsLimit, roundsLeast, streamLimit, writtenBlock, within, argon2Fits}
 
 -- a whole file, with a block's number and size before it, is a message
 pub message-file : fileLimit + 12 ≤ messageLimit
@@ -53,6 +53,11 @@ payload-size = omega arith
 pub rounds-word : roundsLimit < 2 ^ 32
 unfolding roundsLimit
 rounds-word = omega arith
+
+-- some rounds are enough and not too many, so that none are both too few and too many
+pub rounds-some : roundsLeast ≤ roundsLimit
+unfolding roundsLeast roundsLimit
+rounds-some = omega arith
 
 -- where a stretch of the inner stream ends is a 64-bit number
 pub stream-word : streamLimit < 2 ^ 64

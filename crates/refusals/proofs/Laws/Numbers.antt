@@ -8,7 +8,7 @@ use Prim.Native.Nat.{ℕ, _<_}
 use native.Mathlib.Omega.{arith}
 use lib.ListN.{getD}
 use Rattle.refusals.specs.declared.Refusal.{Refusal}
-use Rattle.refusals.specs.declared.Refusal.the-variants.{TooLong, CutShort, WrongSignature, WrongVersion, WrongSize, Repeated, UnknownField, Absent, Unlisted, BrokenDictionary, TooManyRounds, HeaderHash, HeaderTag, BlockTag, TrailingBytes, WrongPadding, NoRoom, WrongCredential, OutOfSequence, FigureOutside}
+use Rattle.refusals.specs.declared.Refusal.the-variants.{TooLong, CutShort, WrongSignature, WrongVersion, WrongSize, Repeated, UnknownField, Absent, Unlisted, BrokenDictionary, TooManyRounds, HeaderHash, HeaderTag, BlockTag, TrailingBytes, WrongPadding, NoRoom, WrongCredential, OutOfSequence, TooFewRounds, FigureOutside}
 use Rattle.refusals.specs.Numbers.{ofRefusal}
 
 pub ofRefusal-positive : (r : Refusal) → 0 < ofRefusal r
@@ -31,13 +31,14 @@ ofRefusal-positive WrongPadding = omega arith
 ofRefusal-positive NoRoom = omega arith
 ofRefusal-positive WrongCredential = omega arith
 ofRefusal-positive OutOfSequence = omega arith
+ofRefusal-positive TooFewRounds = omega arith
 ofRefusal-positive FigureOutside = omega arith
 
--- the refusal of a number; 20 and 21 have none
+-- the refusal of a number; 21 has none
 named : ℕ → Refusal
 named n = getD (TooLong ∷ TooLong ∷ CutShort ∷ WrongSignature ∷ WrongVersion ∷ WrongSize ∷ Repeated ∷ UnknownField ∷
     Absent ∷ Unlisted ∷ BrokenDictionary ∷ TooManyRounds ∷ HeaderHash ∷ HeaderTag ∷ BlockTag ∷ TrailingBytes ∷
-    WrongPadding ∷ NoRoom ∷ WrongCredential ∷ OutOfSequence ∷ TooLong ∷ TooLong ∷ FigureOutside ∷ []) n TooLong
+    WrongPadding ∷ NoRoom ∷ WrongCredential ∷ OutOfSequence ∷ TooFewRounds ∷ TooLong ∷ FigureOutside ∷ []) n TooLong
 
 named-ofRefusal : (r : Refusal) → named (ofRefusal r) ≡ r
 unfolding named
@@ -60,6 +61,7 @@ named-ofRefusal WrongPadding = refl
 named-ofRefusal NoRoom = refl
 named-ofRefusal WrongCredential = refl
 named-ofRefusal OutOfSequence = refl
+named-ofRefusal TooFewRounds = refl
 named-ofRefusal FigureOutside = refl
 
 pub ofRefusal-inj : (r q : Refusal) → ofRefusal r ≡ ofRefusal q → r ≡ q
