@@ -1,6 +1,7 @@
 """Cases of the outer header, its listing and dictionaries.
 
-The numbers are told by hand, from document 01; its worked listing stands here as it has it. What the headers of other
+The numbers are told by hand, from documents 01 and 02; the worked listing stands here as document 01 has it, with the
+rounds of document 02's Item 3. What the headers of other
 programs' vaults say is the manifest's, or read from the fields.
 """
 from case_list import KDF_SEED, NONCE, ROUNDS, SEED, field
@@ -100,6 +101,13 @@ WRONG_HEADERS = {
     "custom of size 0": (10, header(f12=b"")),
     "rounds over": (11, header(f11=kdf(rounds=4_000_001))),
     "rounds over, custom broken": (11, header(f11=kdf(rounds=4_000_001), f12=b"")),
+    "rounds 5,999": (20, header(f11=kdf(rounds=5_999))),
+    "one round": (20, header(f11=kdf(rounds=1))),
+    "AES, no rounds": (20, header_of(0, AES, SEED, NONCE, KDF_SEED, 0, b"")),
+    "one round, custom broken": (20, header(f11=kdf(rounds=1), f12=b"")),
+    "one round, custom name twice": (20, header(f11=kdf(rounds=1), f12=DICTIONARIES["repeated"][1])),
+    "one round, KDF seed of 31": (10, header(f11=kdf(rounds=1, seed=bytes(31)))),
+    "one round, nonce of the other cipher": (5, header(f11=kdf(rounds=1), f7=NONCE)),
 }
 
 
@@ -110,13 +118,13 @@ def headers(cases, entries):
     cases.add("header", "worked, bytes behind", worked, data=header() + b"behind")
     most = header(f11=kdf(rounds=4_000_000))
     cases.add("header", "most rounds", figures(most, 1, "chacha", aes_kdf(most, 4_000_000)), data=most)
-    aes = header_of(0, AES, SEED, NONCE, KDF_SEED, 0, b"")
+    aes = header_of(0, AES, SEED, NONCE, KDF_SEED, ROUNDS, b"")
     must(len(aes) == 207, "AES header")
-    cases.add("header", "AES, no rounds", figures(aes, 0, "aes", aes_kdf(aes, 0)), data=aes)
+    cases.add("header", "AES", figures(aes, 0, "aes", aes_kdf(aes, ROUNDS)), data=aes)
     for name, (no, data) in WRONG_HEADERS.items():
         cases.add("header", name, no, data=data)
     cases.add("list", "worked", {"text": LISTING}, data=header() + b"behind")
-    for name in ("empty", "eleven bytes", "version 4.2", "rounds over"):
+    for name in ("empty", "eleven bytes", "version 4.2", "rounds over", "rounds 5,999", "one round"):
         no, data = WRONG_HEADERS[name]
         cases.add("list", name, {"text": f"R{no:02}\n"}, data=data)
     for vault, entry in entries:

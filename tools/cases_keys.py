@@ -71,6 +71,7 @@ def rounds(cases, entries):
     rounds_case(cases, "none, one, too many, none", half + key[:16], key, 20, [0, 1, 18, 7, 0])
     rounds_case(cases, "one too few", half + key[:16], key, 20, [19])
     rounds_case(cases, "all at once", half + key[:16], key, 20, [LARGE, LARGE])
+    rounds_case(cases, "fewer than a vault's least", half + half, key, 5_999, [5_998, 1, 1])
     rounds_case(cases, "most", half + half, key, 4_000_000, [2])
     for name, n in (("one too many", 4_000_001), ("2^32", 2**32), ("2^64-1", 2**64 - 1)):
         cases.add("rounds", name, 11, composite=half + half, S=key, R=n, helpings=[1])

@@ -1,8 +1,8 @@
 """Cases of opening and writing vaults.
 
-The numbers, and what each step hands over, are told by hand, from document 01. Payloads and blocks of other programs'
-vaults are the manifest's, decrypted by the package cryptography, which is OpenSSL. Files to be written come from the
-writer that vectors_writer.py has of its own.
+The numbers, and what each step hands over, are told by hand, from documents 01 and 02. Payloads and blocks of other
+programs' vaults are the manifest's, decrypted by the package cryptography, which is OpenSSL. Files to be written come
+from the writer that vectors_writer.py has of its own.
 """
 import hmac
 
@@ -62,6 +62,11 @@ def damaged_vaults():
     return {
         "empty": (2, b""),
         "signature": (3, flipped(whole, 0)),
+        "rounds 5,999": (20, sealed(CHACHA20, ciphertext(CHACHA20, b"payload"), 7, rounds=5_999)),
+        "one round": (20, sealed(AES, ciphertext(AES, b"payload"), 16, rounds=1)),
+        "one round, hash cut": (20, front(CHACHA20, 1)[:-64]),
+        "one round, hash": (20, flipped(front(CHACHA20, 1), -64)),
+        "one round, tag": (20, flipped(front(CHACHA20, 1), -1)),
         "hash cut": (2, whole[: n - 64]),
         "tag cut": (2, whole[: n - 1]),
         "hash": (12, flipped(whole, n - 64)),
@@ -170,7 +175,9 @@ def made_steps(cases):
     step_case(cases, "padding", sealed(AES, cbc(bytes(32)), 32), [99] * 3, [step(bytes(16)), no_step(16), no_step(19)])
     step_case(cases, "padding, no room", sealed(AES, cbc(bytes(32)), 32), [16, 0, 0],
               [step(bytes(16)), no_step(16), no_step(19)])
-    for name in ("empty", "signature", "hash cut", "tag cut", "hash", "tag"):
+    for name in (
+        "empty", "signature", "rounds 5,999", "one round", "one round, hash", "hash cut", "tag cut", "hash", "tag"
+    ):
         no, data = damaged_vaults()[name]
         cases.add("steps", f"start: {name}", no, data=data, T=T, lents=[99, 99])
 
@@ -218,6 +225,12 @@ def wrong_writes(cases):
         (5, "KDF seed of 33", {"kdf": kdf_ | {"S": bytes(33)}}),
         (11, "rounds over", {"kdf": kdf_ | {"R": 4_000_001}}),
         (11, "rounds 2^64-1, custom broken", {"kdf": kdf_ | {"R": LARGE}, "custom": b"\0"}),
+        (20, "rounds 5,999", {"kdf": kdf_ | {"R": 5_999}}),
+        (20, "no rounds", {"kdf": kdf_ | {"R": 0}}),
+        (20, "one round, custom broken", {"kdf": kdf_ | {"R": 1}, "custom": b"\0"}),
+        (20, "one round, custom name twice", {"kdf": kdf_ | {"R": 1}, "custom": DICTIONARIES["repeated"][1]}),
+        (20, "one round, no room", {"kdf": kdf_ | {"R": 1}, "lent": 0}),
+        (5, "nonce of 12, one round", {"nonce": NONCE[:12], "kdf": kdf_ | {"R": 1}}),
         (10, "custom broken", {"custom": b"\0\2\0"}),
         (6, "custom name twice, no room", {"custom": DICTIONARIES["repeated"][1], "lent": 0}),
         (17, "no room", {"lent": 0}),

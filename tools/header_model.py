@@ -1,4 +1,5 @@
-"""A model of the outer header, told from documents 01 and 02 (Item 6) for the scripts alone: it shares no code with the library.
+"""A model of the outer header, told from documents 01 and 02 (Items 3 and 6) for the scripts alone: it shares no code
+with the library.
 
 A check that fails raises Refused with its number, in the documents' order.
 """
@@ -68,7 +69,9 @@ def judge_kdf(d):
     need(kind == 0x42 and len(value) == 32, 10)
     kind, value = items.get(b"R", (None, b""))
     need(kind == 0x05, 10)
-    need(int.from_bytes(value, "little") <= 4_000_000, 11)
+    rounds = int.from_bytes(value, "little")
+    need(rounds <= 4_000_000, 11)
+    need(rounds >= 6_000, 20)
 
 
 def judge_argon2(items):

@@ -100,7 +100,6 @@ def accepted(cases):
     cases.case("custom-empty-name-and-values", header(f12=dictionary(*empty)), 0)
     cases.case("dictionary-low-version-byte", header(f11=dictionary(UUID, R, S, version=b"\x7f\x01")), 0)
     cases.case("kdf-more-items", header(f11=dictionary(item(0x04, b"x", bytes(4)), S, R, UUID)), 0)
-    cases.case("rounds-0", header(f11=rounds(0)), 0)
     cases.case("rounds-4000000", header(f11=rounds(4_000_000)), 0)
     cases.case("custom-before-the-others", header(order=(12, 2, 3, 4, 7, 11), f12=dictionary()), 0)
 
@@ -224,6 +223,26 @@ def kdf(cases):
     kdf_case("rounds-over-and-no-seed", dictionary(UUID, item(0x05, b"R", number(2**32, 8))), 10)
 
 
+def few_rounds(cases):
+    """Document 02, Item 3: 20 in 11's place, and of AES-KDF alone. The worked header has 6,000 rounds."""
+    few = item(0x05, b"R", number(5_999, 8))
+    for n in (0, 1, 255, 5_999):
+        cases.case(f"rounds-{n}", header(f11=rounds(n)), 20)
+    cases.case("rounds-6001", header(f11=rounds(6_001)), 0)
+    cases.case("few-and-no-end", header(f11=rounds(5_999), end=b""), 2)
+    cases.case("few-and-absent", header(f11=rounds(5_999), f3=None), 8)
+    cases.case("few-and-cipher", header(f11=rounds(5_999), f2=TWOFISH), 9)
+    cases.case("few-and-nonce", header(f11=rounds(5_999), f7=bytes(16)), 5)
+    cases.case("few-and-repeated-name", header(f11=dictionary(UUID, few, few, S)), 6)
+    cases.case("few-and-unlisted-kdf", header(f11=dictionary(item(0x42, b"$UUID", TWOFISH), few, S)), 9)
+    cases.case("few-and-no-seed", header(f11=dictionary(UUID, few)), 10)
+    cases.case("few-and-seed-of-31", header(f11=dictionary(UUID, few, item(0x42, b"S", bytes(31)))), 10)
+    cases.case("few-and-custom-broken", header(f11=rounds(5_999), f12=b""), 20)
+    cases.case("few-and-custom-repeated-name", header(f11=rounds(0), f12=dictionary(R, R)), 20)
+    cases.case("few-and-custom-before", header(order=(12, 2, 3, 4, 7, 11), f11=rounds(1), f12=b""), 20)
+    cases.case("few-of-argon2", header(f11=argon2_dictionary(few, I=1)), 0)
+
+
 def argon2(cases):
     def argon2_case(name, expected, *more, uuid=ARGON2D, **changed):
         cases.case(f"argon2-{name}", header(f11=argon2_dictionary(*more, uuid=uuid, **changed)), expected)
@@ -296,6 +315,7 @@ def main(folder):
     fields(cases)
     after_the_end(cases)
     kdf(cases)
+    few_rounds(cases)
     argon2(cases)
     custom(cases)
     changed(cases)
@@ -304,7 +324,7 @@ def main(folder):
     assert len(names) == len(set(names))
     table = "".join(f"{name} {text_field(data)} {length}\n" for name, data, length, _ in cases)
     out = "".join(f"{name}\n{text}" for name, _, _, text in cases)
-    assert len(table) <= 131_072
+    assert len(table) <= 262_144
     (crates / "vectors_header" / "stdin").write_text(table)
     (crates / "vectors_header" / "stdout").write_text(out)
     (crates / "list" / "stdin").write_bytes(header())

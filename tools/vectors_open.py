@@ -3,7 +3,7 @@
 
 FIXTURES is the folder of vaults that other programs wrote, with its manifest.json and keys/: who does not have it
 cannot run this script, and needs only the files that it writes. The other vaults are bench.kdbx and hex-key.kdbx of
-crates/open/data, which tools/sample.py made, damaged copies of the first, and three that are made here. Numbers,
+crates/open/data, which tools/sample.py made, damaged copies of the first, and six that are made here. Numbers,
 documents and hashes come from the openers of vectors_vault.py, with T by the AES and the Argon2 of the package
 cryptography, which is OpenSSL; the documents of the vaults in FIXTURES are compared with the manifest's hashes. The
 number expected of each case is told beside it, by hand.
@@ -23,14 +23,14 @@ from sample import PASSWORD, transformed
 from vaults import text_field
 from digests import must, sha256
 from vectors_vault import (
-    AES, FILE_LIMIT, ROUNDS, Keys, blocks, field, flipped, front, header, number, open_whole, text_of
+    AES, FILE_LIMIT, ROUNDS, Keys, blocks, field, flipped, front, header, kdf, number, open_whole, text_of
 )
 
 ROOT = pathlib.Path(__file__).parent.parent
 DATA = ROOT / "crates" / "open" / "data"
 PROGRAM_LIMIT = 65_536
 # The refusals that have a sentence, and the words of memory that crates/vectors_open lends.
-NUMBERS = (*range(1, 20), 22)
+NUMBERS = (*range(1, 21), 22)
 LENT = 524_288
 
 
@@ -192,6 +192,15 @@ def made(cases):
     cases.case("no_inner_header", 2, front(c, header(c, f4=bytes(32))) + blocks(c, text_of(c, b"xml"), [16]), b"a")
 
 
+def few_rounds(cases):
+    """Two vaults that differ in nothing but their rounds, and what follows from them; and one of one round."""
+    payload = field(1, number(3, 4)) + field(2, bytes(64)) + field(0, b"") + b"<KeePassFile/>"
+    for rounds, expected in ((6_000, 0), (5_999, 20), (1, 20)):
+        c = Keys(CHACHA20, bytes(12), bytes(32), transformed(composite(b"a", None), b"\x33" * 32, rounds))
+        f = front(c, header(c, f4=bytes(32), f11=kdf(rounds=rounds))) + blocks(c, text_of(c, payload), [16_384])
+        cases.case(f"rounds_{rounds}", expected, f, b"a")
+
+
 def main(folder):
     crate = ROOT / "crates" / "vectors_open"
     cases = Cases(crate / "data")
@@ -200,6 +209,7 @@ def main(folder):
     hex_key(cases)
     former_rule(cases)
     made(cases)
+    few_rounds(cases)
     (crate / "stdin").write_text("".join(f"{line}\n" for line in cases.table))
     (crate / "stdout").write_text("".join(f"{line}\n" for line in cases.rows + list(cases.lines.values())))
     crate = ROOT / "crates" / "open"

@@ -356,6 +356,13 @@ def damaged_headers(cases):
     case("kdf-seed-of-31", 10, f11=kdf(seed=bytes(31)))
     case("custom-broken", 10, f12=b"\0\2\0")
     case("rounds-over", 11, f11=kdf(rounds=4_000_001))
+    case("rounds-5999", 20, f11=kdf(rounds=5_999))
+    case("rounds-0-of-aes", 20, A, f11=kdf(rounds=0))
+    case("rounds-1-and-custom-broken", 20, f11=kdf(rounds=1), f12=b"")
+    few = front(C, header(C, f11=kdf(rounds=5_999)))
+    cases.case("rounds-5999-cut", 20, few[:-64], T)
+    cases.case("rounds-5999-and-hash", 20, flipped(few, -64) + blocks(C, b"", [1]), T)
+    cases.case("rounds-5999-and-tag", 20, flipped(few, -1) + blocks(C, b"", [1]), T)
 
 
 def damaged_tags(cases):

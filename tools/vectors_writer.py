@@ -1,9 +1,9 @@
 #!/usr/bin/env python3
 """Write what crates/vectors_writer reads and must print:   tools/vectors_writer.py
 
-The files come from a writer of its own, told here from documents 01 and 02 (Items 6 and 7): header, hash, tag and
+The files come from a writer of its own, told here from documents 01 and 02 (Items 3, 6 and 7): header, hash, tag and
 blocks by Python's hashlib and hmac, AES and ChaCha20 by the Python package cryptography, which is OpenSSL. The numbers
-come from its checks, made in document 01's order with 22 in 11's place, and each is compared with the number that its
+come from its checks, made in document 01's order with 20 behind 11 and 22 in its place, and each is compared with the number that its
 case is to give. The lengths that the documents give are compared too. No KDF is run: T is given. No payload and no file
 stands at its limit or over it: the program's stack does not hold one, and tests/differential runs these.
 """
@@ -117,10 +117,12 @@ def encrypted(cipher, key, nonce, payload):
 
 
 def check_costs(kdf, salt, costs):
-    """Refuses rounds over their limit (11), or a figure of Argon2 that is outside its bounds (22)."""
+    """Refuses rounds over their limit (11) or too few (20), or a figure of Argon2 that is outside its bounds (22)."""
     if kdf == AES_KDF:
         if costs > 4_000_000:
             raise Refused(11)
+        if costs < 6_000:
+            raise Refused(20)
         return
     passes, memory, lanes = costs
     inside = 8 <= len(salt) <= 64 and 1 <= passes <= 64 and 8_192 <= memory <= 67_108_864 and 1 <= lanes <= 16
@@ -325,10 +327,16 @@ REFUSED = {
     "chacha20-nonce-of-11": (5, {"cipher": CHACHA20, "nonce": counted(0, 11)}),
     "rounds-2-to-32": (11, {"costs": 2**32}),
     "rounds-of-18-digits": (11, {"costs": 10**18 - 1}),
+    "rounds-0": (20, {"costs": 0}),
+    "rounds-1": (20, {"costs": 1}),
+    "rounds-5999": (20, {"costs": 5_999}),
+    "chacha20-rounds-5999": (20, {"cipher": CHACHA20, "nonce": counted(0xC0, 12), "costs": 5_999}),
     "repeated-no-room": (6, {"custom": DICTIONARIES["repeated"][1], "room": 0}),
     "rounds-repeated": (11, {"custom": DICTIONARIES["repeated"][1], "costs": 4_000_001}),
     "nonce-rounds": (5, {"nonce": counted(0, 15), "costs": 4_000_001}),
+    "nonce-few-rounds": (5, {"nonce": counted(0, 15), "costs": 5_999}),
     "kdf-seed-rounds": (5, {"salt": counted(0, 31), "costs": 4_000_001}),
+    "kdf-seed-few-rounds": (5, {"salt": counted(0, 31), "costs": 5_999}),
     "cipher-nonce": (9, {"cipher": None, "nonce": counted(0, 15)}),
 }
 
@@ -348,7 +356,7 @@ def accepted(cases):
                     assert custom or length == GIVEN.get((cipher, n), length), form
         cases.case(f"{cipher}-given", 0, figures | {"payload": b"A payload that the line gives."})
         cases.case(f"file-{cipher}", 0, figures | {"payload": 17, "custom": CUSTOM})
-        for rounds in (0, 1, 4_000_000):
+        for rounds in (6_000, 4_000_000):
             cases.case(f"{cipher}-rounds-{rounds}", 0, figures | {"costs": rounds})
 
 
@@ -416,6 +424,17 @@ def ties(cases):
         cases.case(f"all-from-{number}", number, together | wrong)
 
 
+def ties_few(cases):
+    """20 with each other number but 11, which no rounds have with it; and with all behind it."""
+    few, behind = {"costs": 5_999}, dict(SOUND)
+    for number, wrong in (w for w in WRONG if w[0] != 11):
+        before = number in (4, 9, 5)
+        cases.case(f"tie-{number}-20", number if before else 20, SOUND | wrong | few)
+        behind |= {} if before else wrong
+    cases.case("tie-6-20", 20, SOUND | few | {"custom": DICTIONARIES["repeated"][1]})
+    cases.case("all-from-20", 20, behind | few)
+
+
 def large(cases):
     """Payloads about full blocks, with room and without; and one of which the program has no room for the file."""
     for cipher, figures in BOTH.items():
@@ -438,6 +457,7 @@ def main():
     refused(cases)
     refused_argon2(cases)
     ties(cases)
+    ties_few(cases)
     large(cases)
     table = "".join(f"{line}\n" for line in cases.table)
     assert len(table) < TABLE, len(table)

@@ -3,7 +3,8 @@
 --   "AES-KDF encrypts each 16-byte half of the composite key R times under
 --    AES-256 with key S"                                                      halfAfter
 --   "T is SHA-256 of the two results joined"                                  transformedKey
---   "starting the rounds checks 11"                                           start
+--   "starting the rounds checks 11"; "Starting the rounds still checks 11
+--    alone" (document 02, Item 3)                                             start
 --   "a helping of n does the lesser of n and what remains"                    isOpen, remaining, advanced
 --   "T before the end is 19; R = 0 is at its end from the start"              finish
 -- A state that is refused, or that no call could have made, has no rounds remaining and is never at its end.

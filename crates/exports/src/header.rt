@@ -1,6 +1,6 @@
 // The outer header (document 01, "Header"): what it says, as figures, and its listing. The contracts cite crate
 // outer_header's specs/Kdbx4Header with specs/Answers, and crate listing's specs/Listing. Refusals: of the header 1 to
-// 11 and 22, of the listing 17.
+// 11, 20 and 22, of the listing 17.
 ghost use mathlib.Core.Path.{_≡_};
 ghost use mathlib.Core.List.{[], _∷_};
 ghost use Rattle.refusals.specs.Numbers as numbers;

@@ -1,7 +1,7 @@
 // Vaults under the transformed key T (document 01, "File after the header"): opening whole, and block by block over a
 // state that is lent as bytes; writing. The contracts cite the definitions of crates vault, opening, states and writer.
-// Refusals: of opening 1 to 17 and 22, of the start 1 to 13 and 22, of a step 19, 1, 2, 5, 14 to 17, of writing 4, 9, 5,
-// 11 or 22, 10 or 6, 1, 17.
+// Refusals: of opening 1 to 17, 20 and 22, of the start 1 to 13, 20 and 22, of a step 19, 1, 2, 5, 14 to 17, of writing
+// 4, 9, 5, 11 and 20 or 22, 10 or 6, 1, 17.
 ghost use mathlib.Core.Path.{_≡_};
 ghost use lib.ListN.{length};
 ghost use Rattle.refusals.specs.Numbers as numbers;

@@ -5,12 +5,13 @@
 --   judged-written      .. and the checks after the end field are passed
 --   header-written      .. so the header is accepted
 --   header-read-back    figures that pass the writer's checks are read back
+--   header-few          a header of AES-KDF with too few rounds is refused, whatever its custom dictionary is
 -- Not here: that code lays those bytes (header_writer::write); bytes behind any header (crate outer_header, Behind).
 -- Assumes nothing.
 use mathlib.Core.Path.{_≡_, refl, sym, ap, _∙_}
 use mathlib.Core.Bool.{true, false}
 use mathlib.Core.List.{List, [], _∷_, _++_}
-use Prim.Native.Nat.{ℕ, _+_, _-_, _≤_}
+use Prim.Native.Nat.{ℕ, _+_, _-_, _≤_, _<_}
 use native.Mathlib.Omega.{arith}
 use lib.Dec.{eqb}
 use lib.ListN.{length, take, drop}
@@ -19,20 +20,23 @@ use borrow.Author.Tests.{eqb-true, ne-eqb}
 use Rattle.words.specs.Endian.{le, leBytes}
 use Rattle.words.proofs.Laws.Cases.{by-bool}
 use Rattle.slices.proofs.Laws.Parts.{part-front}
+use Rattle.refusals.specs.declared.Refusal.{Refusal}
+use Rattle.refusals.specs.declared.Refusal.the-variants.{TooFewRounds}
 use Rattle.refusals.specs.declared.Outcome.the-variants as outcome
-use Rattle.refusals.specs.Limits.{fileLimit, argon2Fits}
+use Rattle.refusals.specs.Limits.{fileLimit, roundsLeast, argon2Fits}
 use Rattle.refusals.proofs.Laws.Limits.{argon2Fits-bounds}
 use Rattle.fields.specs.Fields.{bytesAt, fits, fieldBytes, nowhere}
 use Rattle.fields.specs.declared.Place.{Place}
 use Rattle.ciphers.specs.Ciphers.{identifier, cipherOf, nonceLength}
 use Rattle.ciphers.specs.declared.Cipher.{Cipher}
+use Rattle.ciphers.specs.declared.Identified.the-variants as identified
 use Rattle.ciphers.proofs.Laws.{cipherOf-identifier, nonceLength-le}
 use Rattle.kdf_dictionary.specs.Kdf.{kdfBytes, kdfLength, IsWritable, writtenKdf}
 use Rattle.kdf_dictionary.specs.declared.writer.Figures.{Figures}
 use Rattle.kdf_dictionary.specs.declared.writer.Figures.the-variants as figures
 use Rattle.kdf_dictionary.specs.KdfDictionary.{kdfOf}
 use Rattle.kdf_dictionary.specs.declared.Reading.the-variants as kdf
-use Rattle.kdf_dictionary.proofs.Laws.ReadBack.{kdfOf-kdfBytes, saltAt, kdfBytes-salt-is}
+use Rattle.kdf_dictionary.proofs.Laws.ReadBack.{kdfOf-kdfBytes, kdfOf-few, saltAt, kdfBytes-salt-is}
 use Rattle.outer_header.specs.declared.walk.Fields.{Fields}
 use Rattle.outer_header.specs.declared.walk.Walked.the-variants as walked
 use Rattle.outer_header.specs.declared.Reading.the-variants as read
@@ -48,7 +52,7 @@ use Rattle.outer_header.specs.Kdbx4Header.{
   judged,
   header,
 }
-use Rattle.outer_header.proofs.Laws.Accepted.{accepts-header, accepts-judged}
+use Rattle.outer_header.proofs.Laws.Accepted.{accepts-header, accepts-judged, header-judged, refuses-judged}
 use Rattle.header_writer.specs.Written.{noCompression, headerBytes, headerLength, customVerdict, checked}
 use Rattle.header_writer.specs.ReadsBack.{kdfPlace, customPlace, saltPlace, writtenHeader, ReadsBack}
 use Rattle.header_writer.specs.declared.Checked.the-variants.{As}
@@ -208,6 +212,23 @@ module _ (minor : ℕ) (c : Cipher) (seed nonce : List ℕ) (fig : Figures) (sal
   unfolding le leBytes fieldBytes
   no-compression = le-lies s 33 3 noCompression _ (w .compression-lies) 4 0 (omega arith)
 
+  cipher-known : cipherOf (bytesAt s (record { start = 17; length = 16 })) ≡ identified.As c
+  cipher-known =
+      let i : bytesAt s (record { start = 17; length = 16 }) ≡ identifier c =
+      bytesAt-lies s 12 2 (identifier c) _ (w .cipher-lies) in
+      ap cipherOf i ∙ cipherOf-identifier c
+
+  header-refused : (r : Refusal) → kdfOf s (kdfPlace c fig (length salt)) ≡ kdf.Refused r → minor ≤ 1
+      → length s ≤ fileLimit
+      → header s ≡ read.Refused r
+  header-refused r x m f =
+      let l = at-least in
+      let n = headerLength-ge c fig (length salt) (length custom) in
+      let p = customPlace c fig (length salt) (length custom) in
+      header-judged s minor (headerLength c fig (length salt) (length custom)) (fieldsWith c kl p) f (omega arith)
+      (w .first-is) (w .second-is) m (w .version-is) (walk-written f)
+      ∙ refuses-judged s (fieldsWith c kl p) minor _ c r (complete-fields c kl p) cipher-known no-compression refl x
+
   module _ (writable : IsWritable fig (length salt))
       (sound : customVerdict custom ≡ outcome.Accepted) where
     kdf-asks : kdfOf s (kdfPlace c fig (length salt))
@@ -217,11 +238,9 @@ module _ (minor : ℕ) (c : Cipher) (seed nonce : List ℕ) (fig : Figures) (sal
     judged-written : judged s (fieldsWith c kl (customPlace c fig (length salt) (length custom))) minor (headerLength c fig (length salt) (length custom))
         ≡ read.Header (writtenHeader minor c fig (length salt) (length custom))
     judged-written =
-        let i : bytesAt s (record { start = 17; length = 16 }) ≡ identifier c =
-        bytesAt-lies s 12 2 (identifier c) _ (w .cipher-lies) in
         accepts-judged s (fieldsWith c kl (customPlace c fig (length salt) (length custom))) minor (headerLength c fig (length salt) (length custom)) c
         (writtenKdf fig (kdfPlace c fig (length salt)) (length salt))
-        (complete-fields c kl (customPlace c fig (length salt) (length custom))) (ap cipherOf i ∙ cipherOf-identifier c) no-compression refl
+        (complete-fields c kl (customPlace c fig (length salt) (length custom))) cipher-known no-compression refl
         kdf-asks (custom-judged sound)
 
     header-written : minor ≤ 1 → length s ≤ fileLimit
@@ -272,3 +291,22 @@ header-read-back minor id seed nonce fig salt custom c rest e f =
           (k .nonce-long));
       length-told = refl;
     }
+
+-- too few rounds: 20, whatever the custom dictionary is and whatever stands behind the header
+pub header-few : (minor : ℕ) (c : Cipher) (seed nonce : List ℕ) (rounds : ℕ) (salt custom rest : List ℕ) → minor ≤ 1
+    → length seed ≡ 32
+    → length nonce ≡ nonceLength c
+    → length salt ≡ 32
+    → rounds < roundsLeast
+    → length (headerBytes minor c seed nonce (figures.AesKdf rounds) salt custom ++ rest) ≤ fileLimit
+    → header (headerBytes minor c seed nonce (figures.AesKdf rounds) salt custom ++ rest) ≡ read.Refused TooFewRounds
+unfolding kdfLength
+header-few minor c seed nonce rounds salt custom rest m seed-long nonce-long salt-long few f =
+    let fig = figures.AesKdf rounds in
+    let s = headerBytes minor c seed nonce fig salt custom ++ rest in
+    let w = header-fields minor c seed nonce fig salt custom rest s refl seed-long nonce-long m in
+    let small : kdfLength fig (length salt) ≤ 171 = omega (arith, salt-long) in
+    header-refused minor c seed nonce fig salt custom s w small TooFewRounds
+    (kdfOf-few rounds salt s (kdfPlace c fig (length salt)) salt-long few
+    (kdf-bytes minor c seed nonce fig salt custom s w small))
+    m f

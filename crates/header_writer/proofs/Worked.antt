@@ -3,7 +3,7 @@
 -- In order:
 --   length-aes, length-chacha    "AES header without custom data: 207 bytes; ChaCha20: 203"
 --   length-kdf                   "KDF dictionary: 93"
---   listed-lines                 the 4.1 ChaCha20 header with R = 1, seeds of bytes 11 and 33, nonce of bytes 22
+--   listed-lines                 the 4.1 ChaCha20 header with R = 6,000, seeds of bytes 11 and 33, nonce of bytes 22
 --   checked-listed, checked-custom    its figures may be written, also with an empty custom dictionary
 --   checked-most, checked-more   "Rounds 4,000,000 pass, 4,000,001 give 11"
 --   checked-salt, checked-salt-short    document 02, Item 6: a salt of 8 bytes passes, of 7 gives 22
@@ -15,7 +15,7 @@ use lib.ListN.{length, replicate}
 use Rattle.words.specs.Endian.{leBytes}
 use Rattle.slices.specs.Same.{same}
 use Rattle.refusals.specs.declared.Refusal.the-variants.{TooManyRounds, FigureOutside}
-use Rattle.refusals.specs.Limits.{roundsLimit, argon2Fits}
+use Rattle.refusals.specs.Limits.{roundsLeast, roundsLimit, argon2Fits}
 use Rattle.fields.specs.Fields.{fieldBytes}
 use Rattle.ciphers.specs.Ciphers.{identifier, cipherOf, nonceLength}
 use Rattle.ciphers.specs.declared.Cipher.the-variants.{Aes256, ChaCha20}
@@ -72,14 +72,14 @@ listedLines =
     0x22 ∷ [])
     ++ (0x0B ∷ 0x5D ∷ 0x00 ∷ 0x00 ∷ 0x00 ∷ 0x00 ∷ 0x01 ∷ 0x42 ∷ 0x05 ∷ 0x00 ∷ 0x00 ∷ 0x00 ∷ 0x24 ∷ 0x55 ∷ 0x55 ∷ 0x49 ∷
     0x44 ∷ 0x10 ∷ 0x00 ∷ 0x00 ∷ 0x00 ∷ 0xC9 ∷ 0xD9 ∷ 0xF3 ∷ 0x9A ∷ 0x62 ∷ 0x8A ∷ 0x44 ∷ 0x60 ∷ 0xBF ∷ 0x74 ∷ 0x0D ∷
-    0x08 ∷ 0xC1 ∷ 0x8A ∷ 0x4F ∷ 0xEA ∷ 0x05 ∷ 0x01 ∷ 0x00 ∷ 0x00 ∷ 0x00 ∷ 0x52 ∷ 0x08 ∷ 0x00 ∷ 0x00 ∷ 0x00 ∷ 0x01 ∷
-    0x00 ∷ 0x00 ∷ 0x00 ∷ 0x00 ∷ 0x00 ∷ 0x00 ∷ 0x00 ∷ 0x42 ∷ 0x01 ∷ 0x00 ∷ 0x00 ∷ 0x00 ∷ 0x53 ∷ 0x20 ∷ 0x00 ∷ 0x00 ∷
+    0x08 ∷ 0xC1 ∷ 0x8A ∷ 0x4F ∷ 0xEA ∷ 0x05 ∷ 0x01 ∷ 0x00 ∷ 0x00 ∷ 0x00 ∷ 0x52 ∷ 0x08 ∷ 0x00 ∷ 0x00 ∷ 0x00 ∷ 0x70 ∷
+    0x17 ∷ 0x00 ∷ 0x00 ∷ 0x00 ∷ 0x00 ∷ 0x00 ∷ 0x00 ∷ 0x42 ∷ 0x01 ∷ 0x00 ∷ 0x00 ∷ 0x00 ∷ 0x53 ∷ 0x20 ∷ 0x00 ∷ 0x00 ∷
     0x00 ∷ 0x33 ∷ 0x33 ∷ 0x33 ∷ 0x33 ∷ 0x33 ∷ 0x33 ∷ 0x33 ∷ 0x33 ∷ 0x33 ∷ 0x33 ∷ 0x33 ∷ 0x33 ∷ 0x33 ∷ 0x33 ∷ 0x33 ∷
     0x33 ∷ 0x33 ∷ 0x33 ∷ 0x33 ∷ 0x33 ∷ 0x33 ∷ 0x33 ∷ 0x33 ∷ 0x33 ∷ 0x33 ∷ 0x33 ∷ 0x33 ∷ 0x33 ∷ 0x33 ∷ 0x33 ∷ 0x33 ∷
     0x33 ∷ 0x00 ∷ [])
     ++ (0x00 ∷ 0x04 ∷ 0x00 ∷ 0x00 ∷ 0x00 ∷ 0x0D ∷ 0x0A ∷ 0x0D ∷ 0x0A ∷ [])
 
-pub listed-lines : headerBytes 1 ChaCha20 (replicate 32 0x11) (replicate 12 0x22) (figures.AesKdf 1) (replicate 32 0x33) []
+pub listed-lines : headerBytes 1 ChaCha20 (replicate 32 0x11) (replicate 12 0x22) (figures.AesKdf 6_000) (replicate 32 0x33) []
     ≡ listedLines
 unfolding headerBytes versionBytes customField fieldBytes kdfBytes aesKdfBytes itemBytes leBytes identifier
 listed-lines = refl
@@ -89,20 +89,20 @@ abbrev listedChecked : ℕ → List ℕ → Checked
 listedChecked rounds custom =
     checked 1 (identifier ChaCha20) (replicate 32 0x11) (replicate 12 0x22) (figures.AesKdf rounds) (replicate 32 0x33) custom
 
-pub checked-listed : listedChecked 1 [] ≡ As ChaCha20
-unfolding checked checkedCipher checkedSizes saltSized checkedFigures checkedCustom customVerdict cipherOf identifier nonceLength same roundsLimit
+pub checked-listed : listedChecked 6_000 [] ≡ As ChaCha20
+unfolding checked checkedCipher checkedSizes saltSized checkedFigures checkedCustom customVerdict cipherOf identifier nonceLength same roundsLimit roundsLeast
 checked-listed = refl
 
-pub checked-custom : listedChecked 1 (0x00 ∷ 0x01 ∷ 0x00 ∷ []) ≡ As ChaCha20
-unfolding checked checkedCipher checkedSizes saltSized checkedFigures checkedCustom customVerdict cipherOf identifier nonceLength same roundsLimit verdict walk walkIn entryAt
+pub checked-custom : listedChecked 6_000 (0x00 ∷ 0x01 ∷ 0x00 ∷ []) ≡ As ChaCha20
+unfolding checked checkedCipher checkedSizes saltSized checkedFigures checkedCustom customVerdict cipherOf identifier nonceLength same roundsLimit roundsLeast verdict walk walkIn entryAt
 checked-custom = refl
 
 pub checked-most : listedChecked 4_000_000 [] ≡ As ChaCha20
-unfolding checked checkedCipher checkedSizes saltSized checkedFigures checkedCustom customVerdict cipherOf identifier nonceLength same roundsLimit
+unfolding checked checkedCipher checkedSizes saltSized checkedFigures checkedCustom customVerdict cipherOf identifier nonceLength same roundsLimit roundsLeast
 checked-most = refl
 
 pub checked-more : listedChecked 4_000_001 [] ≡ Refused TooManyRounds
-unfolding checked checkedCipher checkedSizes saltSized checkedFigures checkedCustom customVerdict cipherOf identifier nonceLength same roundsLimit
+unfolding checked checkedCipher checkedSizes saltSized checkedFigures checkedCustom customVerdict cipherOf identifier nonceLength same roundsLimit roundsLeast
 checked-more = refl
 
 -- what the writer says to Argon2 with a salt

@@ -1,7 +1,8 @@
 -- The outer header that is written: document 01, "Header" and "File after the header".
 --
---   "Order: 4, 9, 5 (seeds, nonce), 11, 10 or 6, .."; 22 in
---    11's place, "the writer's salt length included"           checked, checkedSizes, checkedFigures, checkedCustom
+--   "Order: 4, 9, 5 (seeds, nonce), 11, 10 or 6, .."; "20,
+--    directly after 11" (document 02, Item 3); 22 in 11's
+--    place, "the writer's salt length included" (Item 6)       checked, checkedSizes, checkedFigures, checkedCustom
 --   "Signatures 0x9AA2D903 and 0xB54BFB67, then the version,
 --    major in the high word"                                    versionBytes
 --   "custom dictionary (zero length: field absent)"             customField
@@ -14,10 +15,10 @@ use Prim.Native.Nat.{ℕ, _+_}
 use lib.Dec.{eqb, leb}
 use lib.ListN.{length}
 use Rattle.words.specs.Endian.{leBytes}
-use Rattle.refusals.specs.declared.Refusal.the-variants.{WrongVersion, WrongSize, Unlisted, TooManyRounds, FigureOutside}
+use Rattle.refusals.specs.declared.Refusal.the-variants.{WrongVersion, WrongSize, Unlisted, TooManyRounds, TooFewRounds, FigureOutside}
 use Rattle.refusals.specs.declared.Outcome.{Outcome}
 use Rattle.refusals.specs.declared.Outcome.the-variants as outcome
-use Rattle.refusals.specs.Limits.{roundsLimit, argon2Fits}
+use Rattle.refusals.specs.Limits.{roundsLimit, roundsLeast, argon2Fits}
 use Rattle.fields.specs.Fields.{fieldBytes}
 use Rattle.ciphers.specs.Ciphers.{identifier, cipherOf, nonceLength}
 use Rattle.ciphers.specs.declared.Cipher.{Cipher}
@@ -77,10 +78,12 @@ saltSized (figures.AesKdf rounds) n = eqb n 32
 saltSized (figures.Argon2d passes memory lanes) n = true
 saltSized (figures.Argon2id passes memory lanes) n = true
 
--- 11 of AES-KDF, 22 of Argon2; then 10 or 6
+-- 11 and 20 of AES-KDF, 22 of Argon2; then 10 or 6
 unfoldable pub checkedFigures : Cipher → Figures → List ℕ → List ℕ → Checked
 checkedFigures c (figures.AesKdf rounds) salt custom =
-    cond (leb rounds roundsLimit) (checkedCustom c (customVerdict custom)) (Refused TooManyRounds)
+    cond (leb rounds roundsLimit)
+    (cond (leb roundsLeast rounds) (checkedCustom c (customVerdict custom)) (Refused TooFewRounds))
+    (Refused TooManyRounds)
 checkedFigures c (figures.Argon2d passes memory lanes) salt custom =
     cond (argon2Fits (length salt) passes memory lanes) (checkedCustom c (customVerdict custom))
     (Refused FigureOutside)

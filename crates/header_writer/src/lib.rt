@@ -3,7 +3,8 @@
 //   signatures, version | 2 cipher | 3 compression | 4 master seed | 7 nonce | 11 KDF dictionary | 12 custom | 0 end
 //
 // `check` makes the writer's checks of the figures, `write` lays the header, `header_len` tells its length beforehand.
-// The contracts cite specs/Written. Refusals: 4, 9, 5, 11 of AES-KDF or 22 of Argon2, then 10 or 6.
+// The contracts cite specs/Written. Refusals: 4, 9, 5, 11 and 20 of AES-KDF or 22 of Argon2, then
+// 10 or 6.
 ghost use mathlib.Core.Path.{_≡_};
 ghost use Prim.Native.Nat.{_≤_};
 ghost use lib.ListN.{length, take};
@@ -60,7 +61,10 @@ fn check_figures(c: Cipher, figures: Figures, salt: &[u8], custom: &[u8]) -> Che
     match figures {
         Figures::AesKdf { rounds } => {
             if refusals::limits::rounds_fit(rounds) {
-                return check_custom(c, custom);
+                if refusals::limits::rounds_suffice(rounds) {
+                    return check_custom(c, custom);
+                }
+                return Checked::Refused(Refusal::TooFewRounds);
             }
             return Checked::Refused(Refusal::TooManyRounds);
         }

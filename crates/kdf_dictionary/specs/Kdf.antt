@@ -14,7 +14,7 @@ use mathlib.Core.Bool.{true}
 use mathlib.Core.List.{List, [], _∷_, _++_}
 use Prim.Native.Nat.{ℕ, _+_, _≤_}
 use Rattle.words.specs.Endian.{leBytes}
-use Rattle.refusals.specs.Limits.{roundsLimit, argon2Fits}
+use Rattle.refusals.specs.Limits.{roundsLimit, roundsLeast, argon2Fits}
 use Rattle.fields.specs.declared.Place.{Place}
 use Rattle.dictionary.specs.Dictionary.{itemBytes}
 use Rattle.kdf_dictionary.specs.declared.Kdf.{Kdf}
@@ -97,7 +97,7 @@ kdfLength (figures.Argon2id passes memory lanes) n = 107 + n
 
 -- the figures that the writer takes, with a seed or salt of n bytes
 unfoldable pub IsWritable : Figures → ℕ → Type 0
-IsWritable (figures.AesKdf rounds) n = (n ≡ 32) × (rounds ≤ roundsLimit)
+IsWritable (figures.AesKdf rounds) n = (n ≡ 32) × (rounds ≤ roundsLimit) × (roundsLeast ≤ rounds)
 IsWritable (figures.Argon2d passes memory lanes) n = argon2Fits n passes memory lanes ≡ true
 IsWritable (figures.Argon2id passes memory lanes) n = argon2Fits n passes memory lanes ≡ true
 

@@ -1,7 +1,8 @@
--- What a KDF dictionary asks for: document 01, "Header"; document 02, Item 6.
+-- What a KDF dictionary asks for: document 01, "Header"; document 02, Items 3 and 6.
 --
 --   "The KDF dictionary then needs `$UUID` (42, 16 bytes), else 10; a listed KDF, else 9"    uuidOf, listedAs
---   "`S` (42, 32 bytes) and `R` (05), else 10; R within the limit, else 11"                  aesKdfOf
+--   "`S` (42, 32 bytes) and `R` (05), else 10; R within the limit, else 11"; "Reader and
+--    writer shall turn away fewer than 6,000 rounds .. 20, directly after 11"                aesKdfOf
 --   "Items: V (UInt32), S (bytes), I and M (UInt64), P (UInt32)"                             argon2Items
 --   "10 for an absent or wrongly typed item"                                                 complete
 --   "then 9 for another V or an item K or A"                                                 argon2Listed
@@ -20,10 +21,10 @@ use lib.Dec.{eqb, leb}
 use lib.ListN.{length, take, drop}
 use Rattle.words.specs.Endian.{le}
 use Rattle.slices.specs.Same.{same}
-use Rattle.refusals.specs.declared.Refusal.the-variants.{Unlisted, BrokenDictionary, TooManyRounds, FigureOutside}
+use Rattle.refusals.specs.declared.Refusal.the-variants.{Unlisted, BrokenDictionary, TooManyRounds, TooFewRounds, FigureOutside}
 use Rattle.refusals.specs.declared.Outcome.{Outcome}
 use Rattle.refusals.specs.declared.Outcome.the-variants as outcome
-use Rattle.refusals.specs.Limits.{roundsLimit, argon2Fits}
+use Rattle.refusals.specs.Limits.{roundsLimit, roundsLeast, argon2Fits}
 use Rattle.fields.specs.Fields.{bytesAt, nowhere, given}
 use Rattle.fields.specs.declared.Place.{Place}
 use Rattle.dictionary.specs.Dictionary.{verdict, searchFrom}
@@ -81,13 +82,15 @@ hasItem d name = isFound (searched d name)
 abbrev pub placeIn : Place → Place → Place
 placeIn p q = record { start = p .start + q .start; length = q .length }
 
--- AES-KDF: `S` of type 42, 32 bytes; `R` of type 05, within the limit
+-- AES-KDF: `S` of type 42, 32 bytes; `R` of type 05, within the limit (11) and no less than the least (20)
 unfoldable pub aesKdfIn : List ℕ → Place → Place → Place → Reading
 aesKdfIn d p q r =
     cond (eqb (q .length) 32)
     (cond (given r)
     (cond (leb (le 8 d (r .start)) roundsLimit)
+    (cond (leb roundsLeast (le 8 d (r .start)))
     (Asks (kdf.AesKdf (record { seed = placeIn p q; rounds = le 8 d (r .start) })))
+    (Refused TooFewRounds))
     (Refused TooManyRounds))
     (Refused BrokenDictionary))
     (Refused BrokenDictionary)

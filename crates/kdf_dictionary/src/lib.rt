@@ -1,8 +1,8 @@
-// The KDF dictionary of an outer header (document 01, "Header"; document 02, Item 6): what it asks for. Writing is
-// `writer`.
+// The KDF dictionary of an outer header (document 01, "Header"; document 02, Items 3 and 6): what it asks for. Writing
+// is `writer`.
 //
 // The contracts cite specs/KdfDictionary. Refusals: 10 and 6 for the dictionary itself, then for its items 10 and 9 of
-// the identifier; of AES-KDF 10 and 11; of Argon2 10, 9 and 22.
+// the identifier; of AES-KDF 10, 11 and 20; of Argon2 10, 9 and 22.
 ghost use mathlib.Core.Path.{_≡_};
 ghost use Prim.Native.Nat.{_+_, _^_, _<_};
 ghost use lib.ListN.{length};
@@ -291,8 +291,11 @@ fn aes_kdf_of(d: &[u8], p: Place) -> Reading
     }
     let rounds = words::le::u64_at(d, r.start);
     if refusals::limits::rounds_fit(rounds) {
-        let seed = place_in(p, q);
-        return Reading::Asks(Kdf::AesKdf(AesKdf { seed, rounds }));
+        if refusals::limits::rounds_suffice(rounds) {
+            let seed = place_in(p, q);
+            return Reading::Asks(Kdf::AesKdf(AesKdf { seed, rounds }));
+        }
+        return Reading::Refused(Refusal::TooFewRounds);
     }
     Reading::Refused(Refusal::TooManyRounds)
 }

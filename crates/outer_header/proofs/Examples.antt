@@ -5,7 +5,8 @@
 --   custom-negative    "Custom dictionary field of size FFFFFFFF: 5"
 --   custom-long        "Of 7FFFFFFF in a short file: 2"
 --   rounds-most, rounds-more    "Rounds 4,000,000 pass, 4,000,001 give 11"
---   header-listed      the 4.1 ChaCha20 header with R = 1, seeds of bytes 11 and 33, nonce of bytes 22
+--   header-listed      the 4.1 ChaCha20 header with R = 6,000, seeds of bytes 11 and 33, nonce of bytes 22
+--   header-few         .. with R = 1: 20 (document 02, Item 3)
 --   header-argon2id    .. with Argon2id at its greatest memory and lanes instead, salt of bytes 33
 -- Assumes nothing.
 use mathlib.Core.Path.{_≡_, refl}
@@ -18,8 +19,8 @@ use borrow.Author.Tests.{eq-eqb, le-leb, lt-leb, lt-ltb}
 use Rattle.words.specs.Endian.{le, leBytes}
 use Rattle.words.specs.Size.{int32}
 use Rattle.slices.specs.Same.{same}
-use Rattle.refusals.specs.declared.Refusal.the-variants.{CutShort, WrongSize, TooManyRounds}
-use Rattle.refusals.specs.Limits.{fileLimit, roundsLimit, argon2Fits}
+use Rattle.refusals.specs.declared.Refusal.the-variants.{CutShort, WrongSize, TooManyRounds, TooFewRounds}
+use Rattle.refusals.specs.Limits.{fileLimit, roundsLimit, roundsLeast, argon2Fits}
 use Rattle.fields.specs.Fields.{given, fits, valueAt, fieldAt, fieldBytes}
 use Rattle.fields.specs.declared.Place.{Place}
 use Rattle.fields.specs.declared.Field.the-variants as field
@@ -94,11 +95,11 @@ module _ (f : Fields) (s : List ℕ) (at : ℕ) (fresh : seen f 12 ≡ false) (h
 module _ (d : List ℕ) (p q r : Place) (long : q .length ≡ 32) (there : given r ≡ true) where
   pub rounds-most : le 8 d (r .start) ≡ 4_000_000
       → aesKdfIn d p q r ≡ asks.Asks (kdf.AesKdf (record { seed = placeIn p q; rounds = 4_000_000 }))
-  unfolding aesKdfIn roundsLimit
+  unfolding aesKdfIn roundsLimit roundsLeast
   rounds-most e = rw (eq-eqb (q .length) 32 long, there, e)
 
   pub rounds-more : le 8 d (r .start) ≡ 4_000_001 → aesKdfIn d p q r ≡ asks.Refused TooManyRounds
-  unfolding aesKdfIn roundsLimit
+  unfolding aesKdfIn roundsLimit roundsLeast
   rounds-more e = rw (eq-eqb (q .length) 32 long, there, e)
 
 -- a header of ChaCha20 with a KDF dictionary
@@ -112,20 +113,24 @@ chaChaHeader d =
     ++ fieldBytes 11 d
     ++ fieldBytes 0 (0x0D ∷ 0x0A ∷ 0x0D ∷ 0x0A ∷ [])
 
-pub header-listed : header (chaChaHeader (aesKdfBytes (replicate 32 0x33) 1))
+pub header-listed : header (chaChaHeader (aesKdfBytes (replicate 32 0x33) 6_000))
     ≡ read.Header
     (record {
       minor = 1;
       cipher = ChaCha20;
       seed = record { start = 47; length = 32 };
       nonce = record { start = 84; length = 12 };
-      kdf = kdf.AesKdf (record { seed = record { start = 161; length = 32 }; rounds = 1 });
+      kdf = kdf.AesKdf (record { seed = record { start = 161; length = 32 }; rounds = 6_000 });
       «kdf_dictionary» = record { start = 101; length = 93 };
       custom = record { start = 0; length = 0 };
       length = 203;
     })
-unfolding header body judgedIn judged identified figures figuresIn customOf complete walk walkIn endsRight fieldHere noFields put seen sizeRule listed fieldAt valueAt fits int32 le leBytes same fieldBytes aesKdfBytes argon2Bytes itemBytes identifier cipherOf nonceLength kdfOf kdfIn uuidOf uuidIn listedAs listedIn aesKdfOf aesKdfIn typedIn isFound argon2Items kdfs.complete argon2Listed argon2Figures argon2In argon2Fits roundsLimit fileLimit dictionary.verdict dictionary.walk dictionary.walkIn dictionary.named dictionary.namedIn dictionary.entryAt dictionary.nameAt dictionary.valueAt dictionary.sizeFits dictionary.searchFrom dictionary.searchIn
+unfolding header body judgedIn judged identified figures figuresIn customOf complete walk walkIn endsRight fieldHere noFields put seen sizeRule listed fieldAt valueAt fits int32 le leBytes same fieldBytes aesKdfBytes argon2Bytes itemBytes identifier cipherOf nonceLength kdfOf kdfIn uuidOf uuidIn listedAs listedIn aesKdfOf aesKdfIn typedIn isFound argon2Items kdfs.complete argon2Listed argon2Figures argon2In argon2Fits roundsLimit roundsLeast fileLimit dictionary.verdict dictionary.walk dictionary.walkIn dictionary.named dictionary.namedIn dictionary.entryAt dictionary.nameAt dictionary.valueAt dictionary.sizeFits dictionary.searchFrom dictionary.searchIn
 header-listed = refl
+
+pub header-few : header (chaChaHeader (aesKdfBytes (replicate 32 0x33) 1)) ≡ read.Refused TooFewRounds
+unfolding header body judgedIn judged identified figures figuresIn customOf complete walk walkIn endsRight fieldHere noFields put seen sizeRule listed fieldAt valueAt fits int32 le leBytes same fieldBytes aesKdfBytes argon2Bytes itemBytes identifier cipherOf nonceLength kdfOf kdfIn uuidOf uuidIn listedAs listedIn aesKdfOf aesKdfIn typedIn isFound argon2Items kdfs.complete argon2Listed argon2Figures argon2In argon2Fits roundsLimit roundsLeast fileLimit dictionary.verdict dictionary.walk dictionary.walkIn dictionary.named dictionary.namedIn dictionary.entryAt dictionary.nameAt dictionary.valueAt dictionary.sizeFits dictionary.searchFrom dictionary.searchIn
+header-few = refl
 
 pub header-argon2id : header (chaChaHeader (argon2Bytes argon2idUuid (replicate 32 0x33) 2 67_108_864 16))
     ≡ read.Header
@@ -141,5 +146,5 @@ pub header-argon2id : header (chaChaHeader (argon2Bytes argon2idUuid (replicate 
       custom = record { start = 0; length = 0 };
       length = 249;
     })
-unfolding header body judgedIn judged identified figures figuresIn customOf complete walk walkIn endsRight fieldHere noFields put seen sizeRule listed fieldAt valueAt fits int32 le leBytes same fieldBytes aesKdfBytes argon2Bytes itemBytes identifier cipherOf nonceLength kdfOf kdfIn uuidOf uuidIn listedAs listedIn aesKdfOf aesKdfIn typedIn isFound argon2Items kdfs.complete argon2Listed argon2Figures argon2In argon2Fits roundsLimit fileLimit dictionary.verdict dictionary.walk dictionary.walkIn dictionary.named dictionary.namedIn dictionary.entryAt dictionary.nameAt dictionary.valueAt dictionary.sizeFits dictionary.searchFrom dictionary.searchIn
+unfolding header body judgedIn judged identified figures figuresIn customOf complete walk walkIn endsRight fieldHere noFields put seen sizeRule listed fieldAt valueAt fits int32 le leBytes same fieldBytes aesKdfBytes argon2Bytes itemBytes identifier cipherOf nonceLength kdfOf kdfIn uuidOf uuidIn listedAs listedIn aesKdfOf aesKdfIn typedIn isFound argon2Items kdfs.complete argon2Listed argon2Figures argon2In argon2Fits roundsLimit roundsLeast fileLimit dictionary.verdict dictionary.walk dictionary.walkIn dictionary.named dictionary.namedIn dictionary.entryAt dictionary.nameAt dictionary.valueAt dictionary.sizeFits dictionary.searchFrom dictionary.searchIn
 header-argon2id = refl

@@ -3,7 +3,7 @@
 //   signatures, version | ID, size, value | ID, size, value | … | 00, 4, 0D 0A 0D 0A
 //
 // The contracts cite specs/Kdbx4Header. Values are told by their places in the file, and nothing is copied.
-// Refusals: 1 to 11 and 22, in the order of documents 01 and 02; fields may come in any order.
+// Refusals: 1 to 11, 20 and 22, in the order of documents 01 and 02; fields may come in any order.
 ghost use mathlib.Core.Path.{_≡_};
 ghost use Rattle.outer_header.specs.Kdbx4Header as kdbx4;
 use ciphers::Cipher;

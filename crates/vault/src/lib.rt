@@ -4,8 +4,8 @@
 //   outer header | SHA-256 of it | HMAC-SHA-256 of it | block | block | … | closing block
 //
 // `start` and `open` make the same checks up to the header's tag; a step is opener's `step`. The contracts cite
-// specs/Vault. Refusals: the header's 1 to 11, then 2, 12 and 13; of the whole opening also those of the blocks, and 17
-// last.
+// specs/Vault. Refusals: the header's 1 to 11, 20 and 22, then 2, 12 and 13; of the whole opening also those of the
+// blocks, and 17 last.
 ghost use mathlib.Core.Path.{_≡_};
 ghost use Prim.Native.Nat.{_+_, _≤_};
 ghost use lib.ListN.{length};

@@ -115,7 +115,7 @@ fn more_header_refusals(fd: i32) {
     report::refusal(fd, Refusal::HeaderHash);
 }
 
-// The lines of the refusals 13 to 19, and 22.
+// The lines of the refusals 13 to 20, and 22.
 fn other_refusals(fd: i32) {
     report::refusal(fd, Refusal::HeaderTag);
     report::refusal(fd, Refusal::BlockTag);
@@ -124,5 +124,6 @@ fn other_refusals(fd: i32) {
     report::refusal(fd, Refusal::NoRoom);
     report::refusal(fd, Refusal::WrongCredential);
     report::refusal(fd, Refusal::OutOfSequence);
+    report::refusal(fd, Refusal::TooFewRounds);
     report::refusal(fd, Refusal::FigureOutside);
 }

@@ -1,9 +1,9 @@
--- The vault that is written: document 01, "File after the header"; document 02, Items 6 and 7.
+-- The vault that is written: document 01, "File after the header"; document 02, Items 3, 6 and 7.
 --
 --   "The writer takes minor version, cipher, both seeds, nonce, rounds, custom dictionary .., T and payload";
 --   "the writer writes all three" KDFs, each with its own figures                                               Figures
---   "Order: 4, 9, 5 (seeds, nonce), 11, 10 or 6, 1, 17"; Argon2's 22 in 11's place, "the writer's salt length
---   included"                                                                                                   writing
+--   "Order: 4, 9, 5 (seeds, nonce), 11, 10 or 6, 1, 17"; "20, directly after 11"; Argon2's 22 in 11's place,
+--   "the writer's salt length included"                                                                         writing
 --   "all data blocks are full except perhaps the last"                                                          cutIn
 --   "A block of size 0 closes"                                                                                  blocksFrom
 --   "Each block is written directly behind the bytes already laid down"                                         fileCut

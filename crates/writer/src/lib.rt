@@ -3,9 +3,9 @@
 //   header | its hash (32 bytes) | its tag (32 bytes) | data blocks | closing block
 //
 // `write` makes every check before it writes a byte: what is refused leaves the lent slice as it was. The contract
-// cites specs/Written. Refusals: 4, 9, 5, 11 of AES-KDF or 22 of Argon2, then 10 or 6, then 1 and 17, in this order. A
-// KDF is one of three with its own figures (document 02, Item 6). The nonce, the seeds and the salt are the caller's:
-// nothing here makes them, and the payload is not looked at. AES-256's table look-ups are not constant-time.
+// cites specs/Written. Refusals: 4, 9, 5, 11 and 20 of AES-KDF or 22 of Argon2, then 10 or 6, then 1 and 17, in this
+// order. A KDF is one of three with its own figures (document 02, Item 6). The nonce, the seeds and the salt are the
+// caller's: nothing here makes them, and the payload is not looked at. AES-256's table look-ups are not constant-time.
 ghost use mathlib.Core.Path.{_≡_};
 ghost use Prim.Native.Nat.{_+_, _≤_};
 ghost use lib.ListN.{length, take};

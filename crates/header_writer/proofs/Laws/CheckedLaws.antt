@@ -12,7 +12,7 @@ use borrow.Author.Tests.{leb-true, eqb-true}
 use Rattle.refusals.specs.declared.Refusal.{Refusal}
 use Rattle.refusals.specs.declared.Outcome.{Outcome}
 use Rattle.refusals.specs.declared.Outcome.the-variants as outcome
-use Rattle.refusals.specs.Limits.{roundsLimit}
+use Rattle.refusals.specs.Limits.{roundsLeast, roundsLimit}
 use Rattle.ciphers.specs.Ciphers.{cipherOf, nonceLength}
 use Rattle.ciphers.specs.declared.Cipher.{Cipher}
 use Rattle.ciphers.specs.declared.Identified.{Identified}
@@ -53,7 +53,8 @@ checkedFigures-as : (c d : Cipher) (fig : Figures) (salt custom : List ℕ) → 
 unfolding saltSized checkedFigures IsWritable
 checkedFigures-as c d (figures.AesKdf rounds) salt custom h e =
     let w = cond-as _ _ _ c e in
-    ((eqb-true (length salt) 32 h, leb-true rounds roundsLimit (w .0)), w .1)
+    let v = cond-as _ _ _ c (w .1) in
+    ((eqb-true (length salt) 32 h, leb-true rounds roundsLimit (w .0), leb-true roundsLeast rounds (v .0)), v .1)
 checkedFigures-as c d (figures.Argon2d passes memory lanes) salt custom h e = cond-as _ _ _ c e
 checkedFigures-as c d (figures.Argon2id passes memory lanes) salt custom h e = cond-as _ _ _ c e
 

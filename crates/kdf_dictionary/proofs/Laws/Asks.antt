@@ -1,8 +1,8 @@
 -- What an accepted KDF dictionary keeps to.
 --
 -- In order:
---   IsAesKdf, IsArgon2, IsAsked, kdfOf-asks    the seed has 32 bytes and the rounds are within the limit; Argon2's figures
---                                              fit; seed and salt lie within the dictionary
+--   IsAesKdf, IsArgon2, IsAsked, kdfOf-asks    the seed has 32 bytes and the rounds are enough and within the limit; Argon2's
+--                                              figures fit; seed and salt lie within the dictionary
 --   kdfOf-bytes                                the dictionary's bytes and place alone decide
 -- Not here: dictionaries themselves (crate dictionary).
 -- Assumes nothing.
@@ -18,7 +18,7 @@ use Rattle.words.specs.Endian.{le}
 use Rattle.words.proofs.Laws.Cases.{by-bool}
 use Rattle.refusals.specs.declared.Outcome.{Outcome}
 use Rattle.refusals.specs.declared.Outcome.the-variants as outcome
-use Rattle.refusals.specs.Limits.{roundsLimit, argon2Fits}
+use Rattle.refusals.specs.Limits.{roundsLimit, roundsLeast, argon2Fits}
 use Rattle.fields.specs.Fields.{bytesAt, endOf, given}
 use Rattle.fields.specs.declared.Place.{Place}
 use Rattle.dictionary.specs.Dictionary.{verdict}
@@ -59,6 +59,7 @@ pub record IsAesKdf (p : Place) (k : AesKdf) : Type 0 where
   pub seed-behind : p .start ≤ k .seed .start
   pub seed-within : endOf (k .seed) ≤ endOf p
   pub rounds-le : k .rounds ≤ roundsLimit
+  pub rounds-ge : roundsLeast ≤ k .rounds
 
 -- Argon2, asked for by the dictionary at the place p
 pub record IsArgon2 (p : Place) (k : Argon2) : Type 0 where
@@ -87,12 +88,15 @@ module _ (d : List ℕ) (p : Place) (fits : length d ≤ p .length) where
       by-bool (eqb (q .length) 32)
       (λ t. by-bool (given r)
       (λ u. by-bool (leb (le 8 d (r .start)) roundsLimit)
-      (λ v. rw (t, u, v) (record {
+      (λ v. by-bool (leb roundsLeast (le 8 d (r .start)))
+      (λ x. rw (t, u, v, x) (record {
         seed-length = eqb-true (q .length) 32 t;
         seed-behind = omega arith;
         seed-within = omega arith;
         rounds-le = leb-true (le 8 d (r .start)) roundsLimit v;
+        rounds-ge = leb-true roundsLeast (le 8 d (r .start)) x;
       }))
+      (λ x. rw (t, u, v, x) (omega arith)))
       (λ v. rw (t, u, v) (omega arith)))
       (λ u. rw (t, u) (omega arith)))
       (λ t. rw t (omega arith))

@@ -2,21 +2,24 @@
 --
 -- In order:
 --   kdfOf-kdfBytes      for each of the three KDFs
+--   kdfOf-few           of AES-KDF with too few rounds it is refused
 --   kdfBytes-salt-is    its seed or salt stands where it is told
 -- Not here: that it is sound, and what is found in it (Written).
 -- Assumes nothing.
 use mathlib.Core.Path.{_≡_, refl, sym, ap, ap₂, _∙_}
-use mathlib.Core.Bool.{true, false}
+use mathlib.Core.Bool.{true, false, cond}
 use mathlib.Core.List.{List, [], _∷_, _++_, append-assoc}
 use Prim.Native.Nat.{ℕ, _+_, _^_, _≤_, _<_}
 use native.Mathlib.Omega.{arith}
+use lib.Dec.{leb}
 use lib.ListN.{length, take, drop}
-use borrow.Author.Tests.{le-leb, eq-eqb, ne-eqb}
+use borrow.Author.Tests.{le-leb, lt-leb, eq-eqb, ne-eqb}
 use Rattle.words.specs.Endian.{le, leBytes}
 use Rattle.slices.specs.Same.{same}
 use Rattle.slices.proofs.Laws.Same.{same-refl}
-use Rattle.refusals.specs.Limits.{roundsLimit, argon2Fits}
-use Rattle.refusals.proofs.Laws.Limits.{rounds-word, argon2Fits-bounds}
+use Rattle.refusals.specs.declared.Refusal.the-variants.{TooFewRounds}
+use Rattle.refusals.specs.Limits.{roundsLeast, roundsLimit, argon2Fits}
+use Rattle.refusals.proofs.Laws.Limits.{rounds-word, rounds-some, argon2Fits-bounds}
 use Rattle.fields.specs.Fields.{bytesAt, given}
 use Rattle.fields.specs.declared.Place.{Place}
 use Rattle.dictionary.specs.Dictionary.{sizeFits, verdict, itemBytes}
@@ -109,7 +112,7 @@ item-none : (is : List Part) (name : List ℕ) → AllSound is → foundFrom 2 i
 unfolding isFound
 item-none is name h e = ap isFound (search-joined is name h ∙ e)
 
-module _ (seed : List ℕ) (rounds : ℕ) (long : length seed ≡ 32) (few : rounds ≤ roundsLimit) where
+module _ (seed : List ℕ) (rounds : ℕ) (long : length seed ≡ 32) (within : rounds ≤ roundsLimit) where
   abbrev a₁ : Part
   a₁ = part 0x42 uuidName aesKdfUuid
 
@@ -171,9 +174,12 @@ module _ (seed : List ℕ) (rounds : ℕ) (long : length seed ≡ 32) (few : rou
   unfolding joined itemBytes leBytes
   aes-uuid-is = refl
 
+  -- the rounds decide
   kdfOf-aesKdfParts : (p : Place)
       → kdfIn (whole aesKdfParts) p (verdict (whole aesKdfParts))
-      ≡ read.Asks (kdf.AesKdf (record { seed = record { start = p .start + 60; length = length seed }; rounds = rounds }))
+      ≡ cond (leb roundsLeast rounds)
+      (read.Asks (kdf.AesKdf (record { seed = record { start = p .start + 60; length = length seed }; rounds = rounds })))
+      (read.Refused TooFewRounds)
   unfolding kdfIn uuidOf uuidIn listedAs listedIn aesKdfOf aesKdfIn
   kdfOf-aesKdfParts p =
       ap (kdfIn (whole aesKdfParts) p) (verdict-joined aesKdfParts aes-sound aes-fresh)
@@ -185,7 +191,7 @@ module _ (seed : List ℕ) (rounds : ℕ) (long : length seed ≡ 32) (few : rou
         aes-rounds,
         eq-eqb (length seed) 32 long,
         le-rounds,
-        le-leb rounds roundsLimit few,
+        le-leb rounds roundsLimit within,
       )
 
 module _ (uuid salt : List ℕ) (passes memory lanes : ℕ) (uuid-long : length uuid ≡ 16)
@@ -387,12 +393,23 @@ pub kdfOf-kdfBytes : (f : Figures) (salt s : List ℕ) (p : Place) → IsWritabl
 unfolding IsWritable kdfBytes
 kdfOf-kdfBytes (figures.AesKdf rounds) salt s p h e =
     at-place s _ p (e ∙ aesKdfBytes-is salt rounds (h .0) (h .1)) ∙ kdfOf-aesKdfParts salt rounds (h .0) (h .1) p
+    ∙ rw (le-leb roundsLeast rounds (h .2))
 kdfOf-kdfBytes (figures.Argon2d passes memory lanes) salt s p h e =
     at-place s _ p (e ∙ argon2Bytes-is argon2dUuid salt passes memory lanes refl h)
     ∙ kdfOf-argon2Parts argon2dUuid salt passes memory lanes refl h p variant.D listed-argon2d
 kdfOf-kdfBytes (figures.Argon2id passes memory lanes) salt s p h e =
     at-place s _ p (e ∙ argon2Bytes-is argon2idUuid salt passes memory lanes refl h)
     ∙ kdfOf-argon2Parts argon2idUuid salt passes memory lanes refl h p variant.Id listed-argon2id
+
+-- a dictionary of AES-KDF with fewer rounds than the least
+pub kdfOf-few : (rounds : ℕ) (salt s : List ℕ) (p : Place) → length salt ≡ 32 → rounds < roundsLeast
+    → bytesAt s p ≡ kdfBytes (figures.AesKdf rounds) salt
+    → kdfOf s p ≡ read.Refused TooFewRounds
+unfolding kdfBytes
+kdfOf-few rounds salt s p long less e =
+    let within : rounds ≤ roundsLimit = omega (arith, rounds-some) in
+    at-place s _ p (e ∙ aesKdfBytes-is salt rounds long within) ∙ kdfOf-aesKdfParts salt rounds long within p
+    ∙ rw (lt-leb roundsLeast rounds less)
 
 -- where the seed or salt stands in the dictionary
 abbrev pub saltAt : Figures → ℕ

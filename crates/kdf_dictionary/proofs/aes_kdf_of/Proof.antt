@@ -1,18 +1,28 @@
 -- `kdf_dictionary::aes_kdf_of` meets its contract. A seed lies within the dictionary, so its place in the
 -- file is a word. Assumes nothing.
-use mathlib.Core.Path.{sym, _∙_}
+use mathlib.Core.Path.{_≡_, sym, _∙_}
+use mathlib.Core.Bool.{cond}
+use mathlib.Core.List.{List}
+use Prim.Native.Nat.{ℕ}
+use lib.Dec.{leb}
 use denote.Ref.{now}
 use borrow.Author.Tests.{eq-eqb, ne-eqb}
-use Rattle.kdf_dictionary.specs.Kdf.{saltName}
+use Rattle.words.specs.Endian.{le}
+use Rattle.refusals.specs.declared.Refusal.the-variants.{TooManyRounds, TooFewRounds}
+use Rattle.refusals.specs.Limits.{roundsLimit, roundsLeast}
+use Rattle.fields.specs.declared.Place.{Place}
+use Rattle.kdf_dictionary.specs.Kdf.{saltName, roundsName}
+use Rattle.kdf_dictionary.specs.declared.Kdf.the-variants as kdf
+use Rattle.kdf_dictionary.specs.declared.Reading.the-variants.{Asks, Refused}
 use Rattle.kdf_dictionary.proofs.Laws.Items.{item-within}
-use Rattle.kdf_dictionary.specs.KdfDictionary.{aesKdfIn, aesKdfOf}
+use Rattle.kdf_dictionary.specs.KdfDictionary.{itemOf, placeIn, aesKdfIn, aesKdfOf}
 use borrow.Author.Needs.{needs}
 use Rattle.kdf_dictionary.proofs.aes_kdf_of.Statement.{statement}
 use Rattle.kdf_dictionary.proofs.aes_kdf_of.Tie as tie
 
 place-in-requires : tie.Need-place-in-requires
 place-in-requires c κs =
-    let s = c .before .before .before .before .before .before .before .before .before in
+    let s = c .before .before .before .before .before .before .before .before .before .before .before in
     let w = item-within (now (s .before .before .before .args .d)) saltName 0x42 (s .item-of .result) (s .item-of .ensures) in
     search needs
 
@@ -33,34 +43,53 @@ returns-2 c =
       eq-eqb _ 0 (c .if2 .taken),
     )
 
-returns-3 : tie.Need-returns-3
+-- a seed and rounds that are there: the rounds decide
+decided : (d : List ℕ) (p q r : Place) (n : ℕ) → q ≡ itemOf d saltName 0x42 → r ≡ itemOf d roundsName 0x05
+    → q .length ≡ 32
+    → (r .start ≡ 0 → ⊥)
+    → n ≡ le 8 d (r .start)
+    → aesKdfOf d p
+    ≡ cond (leb n roundsLimit)
+    (cond (leb roundsLeast n) (Asks (kdf.AesKdf (record { seed = placeIn p q; rounds = n }))) (Refused TooFewRounds))
+    (Refused TooManyRounds)
 unfolding aesKdfOf aesKdfIn
+decided d p q r n s o long there e = rw (← s, ← o, eq-eqb _ 32 long, ne-eqb _ 0 there, ← e)
+
+returns-3 : tie.Need-returns-3
 returns-3 c =
-    let f = c .before .before in
+    let l = c .before .before in
+    let f = l .before .before in
     let n = f .before in
     let r = n .before .before .before .before .before in
     rw (
       c .place-in .ensures,
-      ← r .before .before .item-of .ensures,
-      ← r .item-of2 .ensures,
-      eq-eqb _ 32 (n .before .before .before .if1 .left),
-      ne-eqb _ 0 (n .before .if2 .left),
-      ← n .u64-at .ensures,
-      sym (f .rounds-fit .ensures) ∙ c .before .if3 .taken,
+      decided _ (r .before .before .before .before .before .args .p) _ _ _ (r .before .before .item-of .ensures)
+          (r .item-of2 .ensures) (n .before .before .before .if1 .left) (n .before .if2 .left) (n .u64-at .ensures),
+      sym (f .rounds-fit .ensures) ∙ l .before .if3 .taken,
+      sym (l .rounds-suffice .ensures) ∙ c .before .if4 .taken,
     )
 
-returns-4 : tie.Need-returns-4
-unfolding aesKdfOf aesKdfIn
-returns-4 c =
+returns-few : tie.Need-returns-4
+returns-few c =
+    let l = c .before in
+    let f = l .before .before in
+    let n = f .before in
+    let r = n .before .before .before .before .before in
+    rw (
+      decided _ (r .before .before .before .before .before .args .p) _ _ _ (r .before .before .item-of .ensures)
+          (r .item-of2 .ensures) (n .before .before .before .if1 .left) (n .before .if2 .left) (n .u64-at .ensures),
+      sym (f .rounds-fit .ensures) ∙ l .before .if3 .taken,
+      sym (l .rounds-suffice .ensures) ∙ c .if4 .left,
+    )
+
+returns-5 : tie.Need-returns-5
+returns-5 c =
     let f = c .before in
     let n = f .before in
     let r = n .before .before .before .before .before in
     rw (
-      ← r .before .before .item-of .ensures,
-      ← r .item-of2 .ensures,
-      eq-eqb _ 32 (n .before .before .before .if1 .left),
-      ne-eqb _ 0 (n .before .if2 .left),
-      ← n .u64-at .ensures,
+      decided _ (r .before .before .before .before .before .args .p) _ _ _ (r .before .before .item-of .ensures)
+          (r .item-of2 .ensures) (n .before .before .before .if1 .left) (n .before .if2 .left) (n .u64-at .ensures),
       sym (f .rounds-fit .ensures) ∙ c .if3 .left,
     )
 
@@ -76,6 +105,8 @@ aes-kdf-of-spec =
     returns-2
     (λ c κs. search needs)
     (λ c κs. search needs)
+    (λ c κs. search needs)
     place-in-requires
     returns-3
-    returns-4)
+    returns-few
+    returns-5)

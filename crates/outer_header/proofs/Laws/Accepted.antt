@@ -2,8 +2,9 @@
 --
 -- In order:
 --   IsJudged, judged-accepts    the checks after the end field that an accepted header passed, and what it says
---   accepts-judged              who passes them is accepted
+--   accepts-judged, refuses-judged    who passes them is accepted; who passes them up to the KDF dictionary is refused as it is
 --   IsHeader, header-accepts    all checks in order
+--   header-judged               those up to the end field passed, those after it decide
 --   accepts-header              who passes them all is accepted
 --   HeaderStands, header-stands    limits, lengths, and places within the header; of the KDF's figures (Asks, IsAsked)
 -- Not here: the bytes behind the header (Behind).
@@ -134,6 +135,16 @@ unfolding judged identified figures figuresIn
 accepts-judged s f minor end c k t u v w x y =
     rw (t, u, eq-eqb (le 4 s (f .compression .start)) 0 v, eq-eqb (f .nonce .length) (nonceLength c) w, x, y)
 
+pub refuses-judged : (s : List ℕ) (f : Fields) (minor end : ℕ) (c : Cipher) (r : Refusal) → complete f ≡ true
+    → cipherOf (bytesAt s (f .cipher)) ≡ As c
+    → le 4 s (f .compression .start) ≡ 0
+    → f .nonce .length ≡ nonceLength c
+    → kdfOf s (f .kdf) ≡ kdf.Refused r
+    → judged s f minor end ≡ read.Refused r
+unfolding judged identified figures figuresIn
+refuses-judged s f minor end c r t u v w x =
+    rw (t, u, eq-eqb (le 4 s (f .compression .start)) 0 v, eq-eqb (f .nonce .length) (nonceLength c) w, x)
+
 -- all checks in order, passed
 pub record IsHeader (s : List ℕ) (h : Header) : Type 0 where
   pub fits : length s ≤ fileLimit
@@ -238,11 +249,21 @@ header-body s (suc zero) t u v w m x =
     )
 header-body s (suc (suc n)) t u v w m x = absurd (omega arith)
 
-pub accepts-header : (s : List ℕ) (h : Header) → IsHeader s h → header s ≡ read.Header h
+pub header-judged : (s : List ℕ) (minor end : ℕ) (f : Fields) → length s ≤ fileLimit → 12 ≤ length s
+    → le 4 s 0 ≡ 0x9AA2D903
+    → le 4 s 4 ≡ 0xB54BFB67
+    → minor ≤ 1
+    → le 4 s 8 ≡ 0x40000 + minor
+    → walk (length s) noFields s 12 ≡ walked.Ended f end
+    → header s ≡ judged s f minor end
 unfolding body judgedIn
+header-judged s minor end f t u v w m x e = header-body s minor t u v w m x ∙ rw e
+
+pub accepts-header : (s : List ℕ) (h : Header) → IsHeader s h → header s ≡ read.Header h
 accepts-header s h i =
-    header-body s (h .minor) (i .fits) (i .long) (i .first-is) (i .second-is) (i .minor-le) (i .version-is)
-    ∙ rw (i .walk-is) (i .judged-is)
+    header-judged s (h .minor) (h .length) (i .fields) (i .fits) (i .long) (i .first-is) (i .second-is) (i .minor-le)
+    (i .version-is) (i .walk-is)
+    ∙ i .judged-is
 
 -- limits, lengths, and places within the header
 pub record HeaderStands (s : List ℕ) (h : Header) : Type 0 where
