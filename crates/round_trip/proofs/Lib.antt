@@ -1,4 +1,5 @@
 pub mod Laws
 pub mod Theorem
 pub mod LargerBlocks
+pub mod FewRounds
 pub mod Worked

@@ -1,4 +1,4 @@
--- The worked numbers of document 01, as one table.
+-- The worked numbers of document 01, and of Items 3, 6 and 7 of document 02, as one table.
 --
 -- In order: lengths of files and of KDF dictionaries, rounds, counts of blocks, worked (the table).
 -- Assumes nothing.
@@ -38,6 +38,7 @@ use Rattle.writer.specs.Stretches.{textLength, blockCount, blocksLength, fileLe
 use Rattle.writer.proofs.Laws.Blocks.{blocks-full, blocks-last}
 use Rattle.writer.proofs.Laws.Files.{length-file}
 use Rattle.round_trip.specs.Worked.{Plain, WorkedNumbers}
+use Rattle.round_trip.proofs.FewRounds.{few-rounds}
 
 -- a file of AES-KDF without custom data
 abbrev plainLength : Cipher → ℕ → ℕ
@@ -180,5 +181,9 @@ worked =
       custom-long = λ f s at n l c e h. custom-long f s at n l c e h;
       rounds-most = λ d p l h e. most d p l h e;
       rounds-more = λ d p l h e. more d p l h e;
+      read-6000 = λ c g a v rest f. few-rounds .reader-passes c 6_000 g a (omega arith) (omega arith) v rest f;
+      read-5999 = λ c g a rest f. few-rounds .former-refused c 5_999 g a (omega arith) rest f;
+      written-6000 = λ c g a v. few-rounds .writer-passes c 6_000 g a (omega arith) (omega arith) v;
+      written-5999 = λ c g a t b n. few-rounds .writer-refuses c 5_999 g a (omega arith) t b n;
       eleven = λ s e. header-short s (omega arith);
     }

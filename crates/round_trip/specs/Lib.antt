@@ -1,3 +1,4 @@
 pub mod Opens
 pub mod LargerBlocks
+pub mod FewRounds
 pub mod Worked

@@ -1,6 +1,7 @@
 -- Document 01, "Numbers to meet": everything that is marked P, as one table with a field or two for each line.
 -- "document 01's worked sizes are AES-KDF's" (document 02, Item 6); those of Argon2's dictionaries stand beside them.
--- Document 02, Item 7, puts one data block and a file of 16,743 bytes in the place of "16,384: two, file 16,779".
+-- Document 02, Item 7, puts one data block and a file of 16,743 bytes in the place of "16,384: two, file 16,779"; Item 3
+-- adds the least rounds.
 -- Assumes nothing.
 use mathlib.Core.Path.{_≡_}
 use mathlib.Core.Bool.{true, false}
@@ -8,8 +9,9 @@ use mathlib.Core.List.{List, [], _∷_, _++_}
 use Prim.Native.Nat.{ℕ, _+_, _≤_}
 use lib.ListN.{length, getD, take, drop}
 use Rattle.words.specs.Endian.{le}
-use Rattle.refusals.specs.declared.Refusal.the-variants.{CutShort, WrongSize, TooManyRounds}
-use Rattle.refusals.specs.declared.Written.the-variants.{Wrote}
+use Rattle.refusals.specs.declared.Refusal.the-variants.{CutShort, WrongSize, TooManyRounds, TooFewRounds}
+use Rattle.refusals.specs.declared.Outcome.the-variants.{Accepted}
+use Rattle.refusals.specs.declared.Written.the-variants.{Wrote, Refused}
 use Rattle.refusals.specs.Limits.{fileLimit, writtenBlock}
 use Rattle.pkcs7.specs.Pkcs7.{padding}
 use Rattle.ciphers.specs.Ciphers.{nonceLength}
@@ -26,13 +28,16 @@ use Rattle.kdf_dictionary.specs.declared.Reading.the-variants as asks
 use Rattle.outer_header.specs.Kdbx4Header.{seen, fieldHere, header}
 use Rattle.outer_header.specs.declared.walk.Fields.{Fields}
 use Rattle.outer_header.specs.declared.Reading.the-variants as read
-use Rattle.header_writer.specs.Written.{headerBytes}
+use Rattle.header_writer.specs.Written.{headerBytes, customVerdict}
+use Rattle.header_writer.specs.ReadsBack.{writtenHeader}
+use Rattle.header_writer.specs.declared.Checked.the-variants.{As}
 use Rattle.block_stream.specs.Blocks.{blockBytes}
 use Rattle.opening.specs.declared.Keys.{Keys}
 use Rattle.opening.specs.Decryption.{decryptionBy, handed}
 use Rattle.opening.specs.Agreement.{stepAnswers}
 use Rattle.opening.proofs.Worked.{Blocks5And27, ClosingBehind, ciphertext, writtens}
-use Rattle.writer.specs.Written.{Figures, encryptionBy, blocksOf, fileBytes}
+use Rattle.writer.specs.Written.{Figures, encryptionBy, blocksOf, fileBytes, headerOf, checkedOf, writing}
+use Rattle.round_trip.specs.FewRounds.{Asks}
 
 -- AES-KDF with figures of the right sizes, without custom data
 pub record Plain (c : Cipher) (g : Figures) : Type 0 where
@@ -112,5 +117,17 @@ pub record WorkedNumbers : Type 0 where
   pub rounds-more : (d : List ℕ) (p : Place) → itemOf d saltName 0x42 .length ≡ 32
       → given (itemOf d roundsName 0x05) ≡ true → le 8 d (itemOf d roundsName 0x05 .start) ≡ 4_000_001
       → aesKdfOf d p ≡ asks.Refused TooManyRounds
+  -- document 02, Item 3: 6,000 pass, 5,999 give 20, of the reader of a whole header and of the writer
+  pub read-6000 : (c : Cipher) (g : Figures) → Asks c 6_000 g → customVerdict (g .custom) ≡ Accepted
+      → (rest : List ℕ) → length (headerOf g c ++ rest) ≤ fileLimit
+      → header (headerOf g c ++ rest)
+      ≡ read.Header (writtenHeader (g .minor) c (figures.AesKdf 6_000) 32 (length (g .custom)))
+  pub read-5999 : (c : Cipher) (g : Figures) → Asks c 5_999 g
+      → (rest : List ℕ) → length (headerOf g c ++ rest) ≤ fileLimit
+      → header (headerOf g c ++ rest) ≡ read.Refused TooFewRounds
+  pub written-6000 : (c : Cipher) (g : Figures) → Asks c 6_000 g → customVerdict (g .custom) ≡ Accepted
+      → checkedOf g ≡ As c
+  pub written-5999 : (c : Cipher) (g : Figures) → Asks c 5_999 g
+      → (t b : List ℕ) (n : ℕ) → writing g t b n ≡ Refused TooFewRounds
   -- "Eleven bytes of anything: 2"
   pub eleven : (s : List ℕ) → length s ≡ 11 → header s ≡ read.Refused CutShort
