@@ -159,7 +159,7 @@ KDF_LENGTH = {"aeskdf": 93, "argon2d": 107 + 64, "argon2id": 107 + 64}
 def asked_kdf(rng, kind):
     """A KDF as a request has it."""
     if kind == "aeskdf":
-        return {"kind": kind, "S": rng.randbytes(32).hex(), "R": 1}
+        return {"kind": kind, "S": rng.randbytes(32).hex(), "R": 6_000}
     return {"kind": kind, "S": rng.randbytes(64).hex(), "I": 1, "M": 8_192, "P": 1}
 
 
@@ -416,7 +416,7 @@ TIES = (
     overlong("aes", cipher=bytes(16).hex()),
     overlong("aes", seed=bytes(31).hex()),
     overlong("chacha", nonce=bytes(16).hex()),
-    overlong("aes", kdf={"kind": "aeskdf", "S": bytes(31).hex(), "R": 1}),
+    overlong("aes", kdf={"kind": "aeskdf", "S": bytes(31).hex(), "R": 6_000}),
     overlong("aes", kdf={"kind": "aeskdf", "S": bytes(32).hex(), "R": 4_000_001}),
 ) + tuple(
     overlong("chacha", kdf={"kind": kind, "S": bytes(32).hex(), "I": 2, "M": 8_192, "P": 1, **figure})

@@ -6,7 +6,8 @@ from model.keys import tag_key
 from model.primitives import cbc_encrypt, hmac_sha256
 
 from .shapes import (
-    Block, Field, Item, aes_kdf_items, argon2_items, flipped, int32_octets, sound_dictionary, sound_item,
+    Block, Dictionary, Field, Item, aes_kdf_items, argon2_items, enough_rounds, few_rounds, flipped, int32_octets,
+    sound_dictionary, sound_item,
 )
 
 
@@ -116,7 +117,9 @@ DICTIONARY = (
 
 # At the borders of documents 01 and 02 and past them, and where a part of the number is one that is allowed.
 FIGURES = {
-    "R": (4_000_000, 4_000_001, 2**32, 2**32 + 1, 2**63, 2**64 - 1, 0),
+    "R": (
+        0, 1, 5_999, 6_000, 4_000_000, 4_000_001, 2**32, 2**32 + 1, 2**32 + 5_999, 2**32 + 6_000, 2**63, 2**64 - 1,
+    ),
     "V": (0x10, 0x12, 0x14, 0x113, 2**24 + 0x13),
     "I": (0, 64, 65, 2**32 + 1, 2**64 - 1),
     "M": (0, 8_191, 67_108_864, 67_108_865, 2**32 + 2**20, 2**64 - 1),
@@ -158,6 +161,12 @@ def kdf_figure(rng, made):
     if items:
         item = rng.choice(items)
         item.value = other_figure(rng, item.name.decode()).to_bytes(8, "little")[: len(item.value)]
+
+
+def kdf_few_rounds(rng, made):
+    item = made.item(b"R")
+    if item:
+        item.value = few_rounds(rng).to_bytes(8, "little")
 
 
 def kdf_salt(rng, made):
@@ -202,16 +211,17 @@ def kdf_item_forbidden(rng, made):
 
 
 def kdf_items_of_both(rng, made):
-    """The items of both KDFs, under the identifier of one."""
+    """The items of both KDFs, under the identifier of one. Of R any number is allowed in Argon2's dictionary."""
     names = [item.name for item in made.items]
-    made.items += [item for item in aes_kdf_items(rng) + argon2_items(rng)[1:] if item.name not in names]
+    rounds = rng.choice((few_rounds, enough_rounds))(rng)
+    made.items += [item for item in aes_kdf_items(rng, rounds) + argon2_items(rng)[1:] if item.name not in names]
     if rng.random() < 0.5:
         kdf_identifier(rng, made)
 
 
-KDF = DICTIONARY + 12 * (kdf_figure,)
+KDF = DICTIONARY + 12 * (kdf_figure,) + 2 * (kdf_few_rounds,)
 KDF += 4 * (kdf_identifier, kdf_salt, kdf_scarce_memory, kdf_item_type, kdf_item_removed, kdf_item_forbidden)
-KDF += (kdf_items_of_both,)
+KDF += 2 * (kdf_items_of_both,)
 
 
 # ----- fields of either header
@@ -323,6 +333,16 @@ def kdf_field(rng, header):
             rng.choice(KDF)(rng, field.value)
 
 
+def header_few_rounds(rng, header):
+    """Too few rounds. A dictionary that has none becomes one of AES-KDF."""
+    field = header.field(outer.KDF)
+    if field and not isinstance(field.value, bytes):
+        if field.value.item(b"R"):
+            kdf_few_rounds(rng, field.value)
+        else:
+            field.value = Dictionary(aes_kdf_items(rng, few_rounds(rng)))
+
+
 def custom_field(rng, header):
     """A fault in the custom dictionary, which is added where there is none."""
     field = header.field(outer.CUSTOM)
@@ -335,8 +355,17 @@ def custom_field(rng, header):
         rng.choice(DICTIONARY)(rng, field.value)
 
 
+def few_rounds_and_custom(rng, header):
+    """Too few rounds, and a fault in the custom dictionary, often a repeated name."""
+    header_few_rounds(rng, header)
+    custom_field(rng, header)
+    field = header.field(outer.CUSTOM)
+    if rng.random() < 0.5 and not isinstance(field.value, bytes):
+        item_repeated(rng, field.value)
+
+
 HEADER = FIELDS + (front, front, end_field, cipher_field, compression_field, nonce_field)
-HEADER += 5 * (kdf_field,) + 3 * (custom_field,)
+HEADER += 5 * (kdf_field,) + 3 * (custom_field,) + (header_few_rounds, few_rounds_and_custom)
 
 
 # ----- the inner header
@@ -435,6 +464,14 @@ def no_closing(rng, vault):
     del vault.blocks[-1]
     if not vault.blocks:
         vault.after = rng.randbytes(rng.randrange(36))
+
+
+def cut_before_blocks(rng, vault):
+    """The file ends inside the header's hash or tag, or before them."""
+    length, right_hash, right_tag = rng.randrange(64), vault.hash, vault.tag
+    vault.hash = lambda octets: right_hash(octets)[:length]
+    vault.tag = lambda octets: right_tag(octets)[: max(0, length - 32)]
+    vault.blocks, vault.after = [], b""
 
 
 def other_t(rng, vault):

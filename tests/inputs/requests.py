@@ -14,7 +14,8 @@ from model.limits import FILE_LIMIT, STREAM_LIMIT, WRITTEN_BLOCK, Refusal
 from . import edits
 from .borders import BORDERS, border, seeds
 from .shapes import (
-    Block, argon2_figures, attachment_run, kdf_dictionary, sound_dictionary, sound_inner, sound_vault,
+    Block, argon2_figures, attachment_run, enough_rounds, few_rounds, kdf_dictionary, sound_dictionary, sound_inner,
+    sound_vault,
 )
 
 LARGE = 2**40  # a lent length past memory: large enough
@@ -35,9 +36,11 @@ AROUND_DIGITS = 3 * ((b"", b"\n"), (b"", b"\r"), (b"", b"\r\n")) + (
 
 def header_octets(rng):
     """A header with none to three edits, sometimes with bytes behind it, sometimes edited as bytes. Of some the KDF
-    dictionary alone is edited, because it has the most rules."""
+    dictionary alone is edited, because it has the most rules; some of these have too few rounds besides."""
     made = sound_vault(rng).header
     if rng.random() < 0.3:
+        if rng.random() < 0.2:
+            edits.header_few_rounds(rng, made)
         edits.kdf_field(rng, made)
         return made.octets()
     edits.apply(rng, edits.HEADER, made)
@@ -53,8 +56,13 @@ def request_header(rng):
 
 
 def some_dictionary(rng):
-    """A dictionary of either kind, before edits."""
-    return kdf_dictionary(rng) if rng.random() < 0.3 else sound_dictionary(rng, 7)
+    """A dictionary of either kind, before edits. It is sound with few rounds too."""
+    if rng.random() >= 0.3:
+        return sound_dictionary(rng, 7)
+    made = kdf_dictionary(rng)
+    if rng.random() < 0.2:
+        edits.kdf_few_rounds(rng, made)
+    return made
 
 
 def request_dict(rng):
@@ -167,14 +175,14 @@ def request_composite(rng):
 
 def request_rounds(rng):
     rounds = rng.choice((0, 1, 2, 3, rng.randrange(20), rng.randrange(200)))
-    if rng.random() < 0.02:
-        rounds = rng.randrange(5000)
+    if rng.random() < 0.04:
+        rounds = rng.choice((5_999, 6_000, 6_001, rng.randrange(7_000)))
     if rng.random() < 0.1:
         rounds = rng.choice((4_000_001, 2**32, 2**63, 2**64 - 1))
     if rng.random() < 0.03:
         return {**seeds(rng), "R": rng.choice((3_999_999, 4_000_000)), "helpings": [rng.randrange(100), 1]}
     helpings = [
-        rng.choice((0, 1, 2, rounds // 2 % 5000, rounds % 5000, rng.randrange(30), 10_000, 2**32, LARGEST))
+        rng.choice((0, 1, 2, rounds // 2 % 7_000, rounds % 7_000, rng.randrange(30), 10_000, 2**32, LARGEST))
         for _ in range(rng.randrange(6))
     ]
     return {**seeds(rng), "R": rounds, "helpings": helpings}
@@ -232,6 +240,11 @@ def small_run(rng):
 def asked_argon2(kind, salt, passes, memory, lanes):
     """Argon2 as a request has it."""
     return {"kind": kind, "S": salt.hex(), "I": passes, "M": memory, "P": lanes}
+
+
+def asked_aes_kdf(rng, rounds):
+    """AES-KDF as a request has it."""
+    return {"kind": "aeskdf", "S": rng.randbytes(32).hex(), "R": rounds}
 
 
 def asked_figure(rng, kdf):
@@ -312,14 +325,20 @@ def ciphertext(rng, made):
 
 
 def some_vault(rng):
-    """A file with few edits: of its header (with hash and tag over the edited one), of its blocks, of its bytes."""
+    """A file with few edits: of its header (with hash and tag over the edited one), of its blocks, of its bytes. Some
+    have too few rounds, most of these with another fault."""
     made = sound_vault(rng)
     made.blocks = [Block(piece) for piece in pieces(rng, ciphertext(rng, made)) + [b""]]
     if rng.random() < 0.25:
         edits.apply(rng, edits.HEADER, made.header, (0.0, 0.7, 0.9))
-    edits.apply(rng, edits.FILE, made, (0.5, 0.85, 0.96))
+    few = rng.random() < 0.06
+    if few:
+        edits.header_few_rounds(rng, made.header)
+    edits.apply(rng, edits.FILE, made, (0.4 if few else 0.5, 0.85, 0.96))
     if rng.random() < 0.03:
         edits.no_closing(rng, made)
+    if rng.random() < (0.1 if few else 0.01):
+        edits.cut_before_blocks(rng, made)
     return edits.octets(rng, made.octets(), 0.12), made.t
 
 
@@ -382,7 +401,7 @@ def request_steps(rng):
 def sound_kdf(rng):
     """A KDF that the writer takes."""
     if rng.random() < 0.4:
-        return {"kind": "aeskdf", "S": rng.randbytes(32).hex(), "R": rng.choice((0, 1, 6000, 4_000_000))}
+        return asked_aes_kdf(rng, enough_rounds(rng))
     return asked_argon2(rng.choice(("argon2d", "argon2id")), *argon2_figures(rng))
 
 
@@ -433,13 +452,26 @@ def write_kdf(rng, made):
     rng.choice(ASKED_KDF)(rng, made["kdf"])
 
 
-def write_custom(rng, made):
+def write_custom(rng, made, table=edits.DICTIONARY):
     custom = sound_dictionary(rng)
-    edits.apply(rng, edits.DICTIONARY, custom, (0.0, 0.7, 0.9))
+    edits.apply(rng, table, custom, (0.0, 0.7, 0.9))
     made["custom"] = custom.octets().hex()
 
 
-WRITE = (write_minor, write_cipher, write_lengths, write_lengths) + 4 * (write_kdf,) + 2 * (write_custom,)
+def write_few_rounds(rng, made):
+    """Too few rounds; of some the KDF's seed or the custom dictionary is changed too."""
+    if made["kdf"]["kind"] == "aeskdf":
+        made["kdf"]["R"] = few_rounds(rng)
+    else:
+        made["kdf"] = asked_aes_kdf(rng, few_rounds(rng))
+    roll = rng.random()
+    if roll < 0.2:
+        asked_salt(rng, made["kdf"])
+    if roll >= 0.6:
+        write_custom(rng, made, edits.DICTIONARY if roll >= 0.8 else (edits.item_repeated,))
+
+
+WRITE = 2 * (write_minor, write_cipher, write_lengths, write_custom, write_few_rounds) + 4 * (write_kdf,)
 
 
 def request_write(rng):

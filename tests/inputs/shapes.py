@@ -178,9 +178,25 @@ def sound_dictionary(rng, most=5):
     return made
 
 
-def aes_kdf_items(rng):
-    """The items of AES-KDF with few rounds."""
-    rounds = rng.choice((0, 1, 2, rng.randrange(50), 4_000_000, 65_536))
+# Enough rounds, of which a part is too few: the low byte, the low 16 bits, these with a sign. 71,535 is 0x1176F.
+FEW_IN_PART = (6_144, 32_768, 65_535, 65_536, 65_537, 71_535)
+# Too few, of which a part is enough: the low byte of 0x16FF and of 255, both bytes of 24 exchanged.
+ENOUGH_IN_PART = (5_887, 255, 24)
+
+
+def enough_rounds(rng):
+    """Rounds of AES-KDF that reader and writer take."""
+    any_of_16, any_at_all = rng.randrange(6_000, 65_536), rng.randrange(6_000, 4_000_001)
+    return rng.choice((6_000, 6_000, 6_001, rng.choice(FEW_IN_PART), any_of_16, any_at_all, 4_000_000))
+
+
+def few_rounds(rng):
+    """Rounds that they turn away (Item 3)."""
+    return rng.choice((0, 1, 5_999, 5_999, rng.choice(ENOUGH_IN_PART), rng.randrange(6_000)))
+
+
+def aes_kdf_items(rng, rounds):
+    """The items of AES-KDF with so many rounds."""
     return [
         Item(BYTES, b"$UUID", AES_KDF),
         Item(UINT64, b"R", rounds.to_bytes(8, "little")),
@@ -214,7 +230,7 @@ def argon2_items(rng):
 def kdf_dictionary(rng):
     """A sound KDF dictionary, sometimes with other items, in any order. Those of AES-KDF may have any other name."""
     if rng.random() < 0.45:
-        made, taken = aes_kdf_items(rng), (b"$UUID", b"R", b"S")
+        made, taken = aes_kdf_items(rng, enough_rounds(rng)), (b"$UUID", b"R", b"S")
     else:
         made, taken = argon2_items(rng), (b"$UUID", *ARGON2_ITEMS, b"K", b"A")
     if rng.random() < 0.3:
