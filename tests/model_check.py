@@ -1,5 +1,5 @@
 """The model by itself: files of other programs, the worked numbers and the worked listing of document 01, those of
-document 02's Items 6 and 7, and the published numbers of Salsa20, which the model makes itself.
+document 02's Items 3, 6 and 7, and the published numbers of Salsa20, which the model makes itself.
 
 This is what `tests/differential --self` runs. The fixtures' manifest was made by their own programs.
 """
@@ -14,15 +14,16 @@ from model import header as outer, inner, keys, salsa20, stream, vault
 from model.answers import answer
 from model.dictionary import AES_KDF, ARGON2D, ARGON2ID, kdf_figures
 from model.limits import STREAM_LIMIT, Refusal
-from model.primitives import sha256
+from model.primitives import cbc_encrypt, sha256
 
+# Item 3: "The listing case of document 01 then uses R = 6,000, whose value bytes are 7017000000000000".
 LISTING = """\
 03D9A29A67FB4BB501000400
 0210000000D6038A2B8B6F4CB5A524339A31DBB59A
 030400000000000000
 04200000001111111111111111111111111111111111111111111111111111111111111111
 070C000000222222222222222222222222
-0B5D00000000014205000000245555494410000000C9D9F39A628A4460BF740D08C18A4FEA05010000005208000000010000000000000042010000\
+0B5D00000000014205000000245555494410000000C9D9F39A628A4460BF740D08C18A4FEA05010000005208000000701700000000000042010000\
 005320000000333333333333333333333333333333333333333333333333333333333333333300
 00040000000D0A0D0A
 """
@@ -159,7 +160,18 @@ def check_opened(tally, folder, entry, data):
     tally.same(label + " payload", sha256(plain).hex(), entry["payload_sha256"])
     tally.same(label + " by steps", stepped(data, t) == plain, True)
     tally.same(label + " another T", number_of(vault.open_whole, data, bytes(32)), 13)
+    if header.kdf.get("R") == 6_000:
+        check_round_less(tally, label, data, header.spans[outer.KDF], t)
     check_inner(tally, label, entry, plain)
+
+
+def check_round_less(tally, label, data, kdf_span, t):
+    """Item 3 on a file of 6,000 rounds: of 5,999 it is refused, which comes before the header's hash."""
+    at = data.index(bytes.fromhex("7017000000000000"), *kdf_span)
+    fewer = data[:at] + (5_999).to_bytes(8, "little") + data[at + 8 :]
+    tally.same(label + " header, a round less", number_of(outer.read, fewer), 20)
+    tally.same(label + " whole, a round less", number_of(vault.open_whole, fewer, t), 20)
+    tally.same(label + " by steps, a round less", number_of(stepped, fewer, t), 20)
 
 
 def check_inner(tally, label, entry, plain):
@@ -183,16 +195,23 @@ def check_fixtures(tally, folder):
             check_opened(tally, folder, entry, data)
 
 
-def written(cipher, payload_length, rounds=1, custom=b""):
+def written(cipher, payload_length, rounds=6_000, custom=b"", minor=1, seed=b"\x33" * 32, lent=None):
     """A file with seeds of bytes 11 and 33 and a nonce of bytes 22, as in the worked listing."""
     nonce = b"\x22" * outer.NONCE_LENGTH[outer.CIPHER_NAMES[cipher]]
-    kdf = {"kind": "aeskdf", "S": b"\x33" * 32, "R": rounds}
-    return vault.write(1, cipher, b"\x11" * 32, nonce, kdf, custom, bytes(32), bytes(payload_length))
+    kdf = {"kind": "aeskdf", "S": seed, "R": rounds}
+    return vault.write(minor, cipher, b"\x11" * 32, nonce, kdf, custom, bytes(32), bytes(payload_length), lent)
+
+
+def with_rounds(data, rounds):
+    """The file of 6,000 rounds with so many in their place, with hash and tag over the header that this makes."""
+    header, vault_keys, at = vault.start(data, bytes(32))
+    head = data[: header.length].replace((6_000).to_bytes(8, "little"), rounds.to_bytes(8, "little"))
+    return head + sha256(head) + keys.header_tag(vault_keys.tag_base, head) + data[at:]
 
 
 def check_lengths(tally):
     """ "AES header without custom data: 207 bytes", and the lengths of files."""
-    tally.same("KDF dictionary", len(vault.written_aes_kdf(bytes(32), 1)), 93)
+    tally.same("KDF dictionary", len(vault.written_aes_kdf(bytes(32), 6_000)), 93)
     for cipher, header_length in ((outer.AES, 207), (outer.CHACHA20, 203)):
         tally.same("header", outer.read(written(cipher, 0)).length, header_length)
     for cipher, payload_length, blocks, length in (
@@ -289,6 +308,63 @@ def check_refusals(tally):
     tally.same("eleven bytes", number_of(outer.read, front[:11]), 2)
 
 
+def check_rounds(tally):
+    """Item 3 in numbers: "Reader and writer shall turn away fewer than 6,000 rounds"; "a header with R = 1 prints
+    R20"; "Starting the rounds still checks 11 alone." """
+    sound = written(outer.CHACHA20, 5)
+    for rounds, number in (
+        (0, 20), (1, 20), (5_999, 20), (6_000, 0), (6_001, 0), (65_536, 0), (4_000_000, 0), (4_000_001, 11),
+        (2**32, 11), (2**32 + 6_000, 11), (2**63 + 1, 11), (2**64 - 1, 11),
+    ):
+        label, data = "%d rounds, " % rounds, with_rounds(sound, rounds)
+        tally.same(label + "header", number_of(outer.read, data), number)
+        lines = LISTING.replace("7017000000000000", rounds.to_bytes(8, "little").hex().upper())
+        tally.same(label + "listing", outer.listing(data), lines if number == 0 else "R%d\n" % number)
+        tally.same(label + "whole", outcome(vault.open_whole, data, bytes(32)), number or bytes(5))
+        tally.same(label + "by steps", outcome(stepped, data, bytes(32)), number or bytes(5))
+        tally.same(label + "written", outcome(written, outer.CHACHA20, 5, rounds), number or data)
+        begun = 11 if number == 11 else 0
+        tally.same(label + "started", number_of(keys.Rounds, bytes(32), bytes(32), rounds), begun)
+    # "R = 0 is at its end from the start."
+    tally.same("T of no rounds", keys.transformed(bytes(32), bytes(32), 0), sha256(bytes(32)))
+    for rounds in (5_999, 6_000):
+        asked = bytes(range(32)), bytes(range(40, 72)), rounds
+        tally.same("T of %d rounds" % rounds, keys.transformed(*asked), chained(*asked))
+
+
+def chained(composite, seed, rounds):
+    """T in another way: a half after its rounds is the last block of CBC over so many zero blocks, with the half as
+    initialization vector."""
+    return sha256(*(cbc_encrypt(seed, half, bytes(16 * rounds))[-16:] for half in (composite[:16], composite[16:])))
+
+
+def check_rounds_order(tally):
+    """Item 3's place: "directly after 11", so before the custom dictionary, and behind all that comes before 11."""
+    broken, repeated = b"\x00\x01", b"\x00\x01" + 2 * vault.written_item(0x08, b"a", b"\x01") + b"\x00"
+    for label, number, changed in (
+        ("a broken custom dictionary", 20, {"custom": broken}),
+        ("a repeated item", 20, {"custom": repeated}),
+        ("a payload over the limit", 20, {"payload_length": 16_777_217}),
+        ("no room", 20, {"lent": 0}),
+        ("a seed of 31 bytes", 5, {"seed": bytes(31)}),
+        ("version 4.2", 4, {"minor": 2}),
+    ):
+        asked = {"cipher": outer.AES, "payload_length": 0, "rounds": 5_999, **changed}
+        tally.same("5,999 rounds and " + label, number_of(lambda: written(**asked)), number)
+    for label, number, items in (
+        ("no S", 10, {b"S": None}),
+        ("an S of 31 bytes", 10, {b"S": (0x42, bytes(31))}),
+        ("an S of another type", 10, {b"S": (0x18, bytes(32))}),
+        ("an R of another type", 10, {b"R": (0x0D, bytes(8))}),
+        ("another KDF", 9, {b"$UUID": (0x42, bytes(16))}),
+        ("nothing else", 20, {}),
+    ):
+        sound = {b"$UUID": (0x42, AES_KDF), b"R": (0x05, (5_999).to_bytes(8, "little")), b"S": (0x42, bytes(32))}
+        made = [vault.written_item(item[0], name, item[1]) for name, item in {**sound, **items}.items() if item]
+        given = number_of(kdf_figures, b"\x00\x01" + b"".join(made) + b"\x00")
+        tally.same("a KDF dictionary of 5,999 rounds and " + label, given, number)
+
+
 def check_argon2(tally):
     """Item 6's readings in numbers: "M = 29,576 with P = 3 is 24 blocks, not 28", and what one word less gives."""
     for memory, lanes, blocks in ((29_576, 3, 24), (8_192, 1, 8), (67_108_864, 16, 65_536), (131_072, 16, 128)):
@@ -300,6 +376,11 @@ def check_argon2(tally):
         found = kdf_figures(vault.written_argon2(identifier, bytes(range(9)), 64, 67_108_864, 16))
         right = {"kind": kind, "V": 0x13, "S": bytes(range(9)), "I": 64, "M": 67_108_864, "P": 16}
         tally.same("%s as written" % kind, found, right)
+        # Item 3's rule is for AES-KDF alone.
+        few = vault.written_argon2(identifier, bytes(8), 1, 8_192, 1)
+        tally.same("%s, one pass" % kind, number_of(kdf_figures, few), 0)
+        round_item = vault.written_item(0x05, b"R", (1).to_bytes(8, "little"))
+        tally.same("%s with an item R" % kind, number_of(kdf_figures, few[:-1] + round_item + b"\x00"), 0)
 
 
 def check_key_file(tally):
@@ -384,6 +465,8 @@ def check_model(fixtures):
     check_former_files(tally)
     check_handed_over(tally)
     check_refusals(tally)
+    check_rounds(tally)
+    check_rounds_order(tally)
     check_argon2(tally)
     check_key_file(tally)
     check_salsa20(tally)

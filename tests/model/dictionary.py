@@ -1,8 +1,8 @@
-"""Variant dictionaries (document 01, "Header", its last paragraph; document 02, Item 6)."""
+"""Variant dictionaries (document 01, "Header", its last paragraph; document 02, Items 3 and 6)."""
 
 from .limits import (
-    ARGON2_VERSION, DICTIONARY, KDF_FIGURE, LANES, MEMORY, MEMORY_OF_LANE, PASSES, REPEATED, ROUNDS, ROUNDS_LIMIT,
-    SALT_LENGTHS, UNLISTED_ALGORITHM, int32, require, uint,
+    ARGON2_VERSION, DICTIONARY, KDF_FIGURE, LANES, LEAST_ROUNDS, MEMORY, MEMORY_OF_LANE, PASSES, REPEATED, ROUNDS,
+    ROUNDS_LIMIT, SALT_LENGTHS, TOO_FEW_ROUNDS, UNLISTED_ALGORITHM, int32, require, uint,
 )
 
 # "Types, in hexadecimal: 04 UInt32, 05 UInt64, 08 Bool (one byte), 0C Int32, 0D Int64, 18 string, 42 bytes. Sizes
@@ -73,11 +73,18 @@ def needed(found, name, kind, size):
     return item.value
 
 
+def aes_kdf_within(rounds):
+    """ "R within the limit, else 11." Item 3: "Refusals: 20, directly after 11." R: "in reader and writer, with nothing
+    between"."""
+    require(rounds <= ROUNDS_LIMIT, ROUNDS)
+    require(rounds >= LEAST_ROUNDS, TOO_FEW_ROUNDS)
+
+
 def aes_kdf_figures(found):
-    """ "`S` (42, 32 bytes) and `R` (05), else 10; R within the limit, else 11." """
+    """ "`S` (42, 32 bytes) and `R` (05), else 10", then R's own numbers."""
     seed = needed(found, b"S", BYTES, 32)
     rounds = uint(needed(found, b"R", UINT64, 8))
-    require(rounds <= ROUNDS_LIMIT, ROUNDS)
+    aes_kdf_within(rounds)
     return {"kind": "aeskdf", "S": seed, "R": rounds}
 
 

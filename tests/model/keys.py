@@ -1,4 +1,4 @@
-"""Keys (document 01, "Keys"; document 02, Items 2, 6 and 7)."""
+"""Keys (document 01, "Keys"; document 02, Items 2, 3, 6 and 7)."""
 
 from . import primitives
 from .dictionary import argon2_within
@@ -66,7 +66,8 @@ class Rounds:
     """AES-KDF in helpings: "encrypts each 16-byte half of the composite key R times under AES-256 with key `S`"."""
 
     def __init__(self, composite_key, seed, rounds):
-        require(rounds <= ROUNDS_LIMIT, ROUNDS)  # "starting the rounds checks 11"
+        # "starting the rounds checks 11". Item 3: "Starting the rounds still checks 11 alone."
+        require(rounds <= ROUNDS_LIMIT, ROUNDS)
         self.encrypt = aes_blocks(seed)
         self.halves = composite_key
         self.rounds = rounds

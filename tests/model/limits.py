@@ -13,6 +13,9 @@ MESSAGE_LIMIT = 33_554_432  # one hash or tag message in all
 WRITTEN_BLOCK = 1_048_576  # bytes of ciphertext. R: it "binds the writer alone. The readers take blocks of any size"
 # R: "Not raised: ... the PC programs' 65,536, rounds."
 ROUNDS_LIMIT = 4_000_000
+# Item 3: "Reader and writer shall turn away fewer than 6,000 rounds, the old default in source document 001." R: "For
+# AES-KDF alone".
+LEAST_ROUNDS = 6_000
 PROGRAM_LIMIT = 65_536  # a PC program's input
 
 # Item 6: "Accept V 0x13, S of 8 to 64 bytes, I 1 to 64, M 8,192 to 67,108,864, P 1 to 16, M at least 8,192 times P."
@@ -42,6 +45,7 @@ PADDING = 16
 LENT_TOO_SHORT = 17
 CREDENTIAL = 18
 AFTER_END = 19
+TOO_FEW_ROUNDS = 20
 KDF_FIGURE = 22
 
 

@@ -1,6 +1,6 @@
 """The file behind the header: the whole opener, the plain opener of demand 3, the writer.
 
-Document 01, "File after the header"; document 02, Items 6 and 7.
+Document 01, "File after the header"; document 02, Items 3, 6 and 7.
 """
 
 from dataclasses import dataclass, replace
@@ -8,8 +8,7 @@ from dataclasses import dataclass, replace
 from . import dictionary, header as outer, keys
 from .limits import (
     AFTER_END, ARGON2_VERSION, BLOCK_TAG, BYTES_AFTER, CUT_SHORT, FILE_LIMIT, HEADER_HASH, HEADER_TAG, LENT_TOO_SHORT,
-    PADDING, PAYLOAD_LIMIT, ROUNDS, ROUNDS_LIMIT, SIZE, UNLISTED_ALGORITHM, VERSION, WRITTEN_BLOCK, Refusal, int32,
-    require, within,
+    PADDING, PAYLOAD_LIMIT, SIZE, UNLISTED_ALGORITHM, VERSION, WRITTEN_BLOCK, Refusal, int32, require, within,
 )
 from .primitives import cbc_decrypt, cbc_encrypt, chacha20, sha256
 
@@ -224,11 +223,11 @@ def written_blocks(base, ciphertext, most=WRITTEN_BLOCK):
 
 
 def aes_kdf_checked(kdf):
-    """AES-KDF's part of the writer's 5 and 11, as functions, and its dictionary."""
+    """AES-KDF's part of the writer's 5, its 11 and "20, directly after 11", as functions, and its dictionary."""
     seed, rounds = kdf["S"], kdf["R"]
     return (
         lambda: require(len(seed) == 32, SIZE),
-        lambda: require(rounds <= ROUNDS_LIMIT, ROUNDS),
+        lambda: dictionary.aes_kdf_within(rounds),
         lambda: written_aes_kdf(seed, rounds),
     )
 
@@ -244,7 +243,7 @@ def argon2_checked(identifier, kdf):
     )
 
 
-# What the writer has of each KDF: its 5, its 11 or 22, and its dictionary.
+# What the writer has of each KDF: its 5, its 11 with 20 or its 22, and its dictionary.
 KDFS = {
     "aeskdf": aes_kdf_checked,
     "argon2d": lambda kdf: argon2_checked(dictionary.ARGON2D, kdf),
@@ -253,7 +252,7 @@ KDFS = {
 
 
 def write(minor, cipher, seed, nonce, kdf, custom, t, plain, lent=None):
-    """The file. "Order: 4, 9, 5 (seeds, nonce), 11, 10 or 6, 1, 17." """
+    """The file. "Order: 4, 9, 5 (seeds, nonce), 11, 10 or 6, 1, 17." Item 3: 20 comes "directly after 11"."""
     require(minor in (0, 1), VERSION)
     require(cipher in outer.CIPHER_NAMES, UNLISTED_ALGORITHM)
     require(kdf["kind"] in KDFS, UNLISTED_ALGORITHM)
