@@ -13,7 +13,7 @@ import sys
 import tempfile
 
 from inputs.borders import BORDERS
-from inputs.requests import request
+from inputs.requests import FIXED, request
 from model.answers import answer
 
 HERE = os.path.dirname(os.path.abspath(__file__))
@@ -95,10 +95,10 @@ def try_edits(name, inputs, drive, answers_of):
 
 def try_mutants(seed, drive, answers_of):
     """Try every edit; True where all are told apart."""
-    first = len(BORDERS)
+    first = len(FIXED)
     small = chunks(seed, first, first + CHUNK * CHUNKS, CHUNK)
     told, missed = try_edits("mutants.edits", small, drive, answers_of)
-    large = chunks(seed, 0, first, BORDER_CHUNK)
+    large = chunks(seed, 0, len(BORDERS), BORDER_CHUNK)
     large_told, large_missed = try_edits("mutants-large.edits", large, drive, answers_of)
     print("%d told apart, %d not" % (told + large_told, missed + large_missed))
     return missed + large_missed == 0

@@ -6,13 +6,13 @@ A large one is some 32 MB of text, so each is made when it is asked.
 """
 
 from model import vault as opening
-from model.header import CUSTOM
+from model.header import CUSTOM, KDF
 from model.limits import (
     FILE_LIMIT, KEY_FILE_LIMIT, MESSAGE_LIMIT, PASSWORD_LIMIT, PAYLOAD_LIMIT, PROGRAM_LIMIT, STREAM_LIMIT,
     WRITTEN_BLOCK,
 )
 
-from .shapes import Block, Dictionary, Field, Item, sound_inner, sound_vault
+from .shapes import Block, Dictionary, Field, Item, aes_kdf_items, sound_inner, sound_vault
 
 # Document 01's numbers, before Item 7: "Stored vaults stay valid and open as before."
 FORMER_LIMIT = 4_194_304  # file and payload
@@ -58,6 +58,14 @@ def with_custom(made, length):
     return made
 
 
+def rounds_vault(rng, rounds, cipher="chacha"):
+    """A file of two data blocks whose KDF is AES-KDF with so many rounds (Item 3)."""
+    made = plain_vault(rng, cipher)
+    made.header.field(KDF).value = Dictionary(aes_kdf_items(rng, rounds))
+    cut_into(rng, made, 40, lambda text: -(-text // 2))
+    return made
+
+
 def asked_file(op, made, **fields):
     """A file as a request has it, with the other fields."""
     return {"op": op, "data": made.octets().hex(), "T": made.t.hex(), **fields}
@@ -66,6 +74,16 @@ def asked_file(op, made, **fields):
 def header_of(op, length):
     """A sound header in a file of that length."""
     return lambda rng: {"op": op, "data": filled(sound_vault(rng).header.octets(), length).hex()}
+
+
+def rounds_filled(op, rounds, length):
+    """A header with so many rounds in a file of that length."""
+
+    def make(rng):
+        data = filled(rounds_vault(rng, rounds).header.octets(), length)
+        return {"op": op, "data": data.hex(), "T": bytes(32).hex(), "lents": [100]}
+
+    return make
 
 
 def long_header(length):
@@ -194,9 +212,21 @@ def largest_payload(cipher, limit=FILE_LIMIT, block=WRITTEN_BLOCK, kind="aeskdf"
 
 def overlong(of, **changed):
     """The writer with a payload over its limit and no room, and with these fields in the place of sound ones: what is
-    wrong with them comes first ("Order: 4, 9, 5 (seeds, nonce), 11, 10 or 6, 1, 17"; 22 in 11's place)."""
+    wrong with them comes first ("Order: 4, 9, 5 (seeds, nonce), 11, 10 or 6, 1, 17"; 22 in 11's place, 20 "directly
+    after 11")."""
     sound = write_of(of, 0, lent=0)
     return lambda rng: {**sound(rng), "data": zeros(PAYLOAD_LIMIT + 1), **changed}
+
+
+def write_rounds(rounds, cipher="chacha", seed_length=32, **fields):
+    """The writer with AES-KDF of so many rounds and such a seed of it, and these fields in the place of sound ones."""
+    sound = write_of(cipher, 40)
+
+    def make(rng):
+        kdf = {"kind": "aeskdf", "S": rng.randbytes(seed_length).hex(), "R": rounds}
+        return {**sound(rng), "kdf": kdf, **fields}
+
+    return make
 
 
 # Figures outside Argon2's bounds, each alone.
@@ -329,6 +359,11 @@ HEADERS = (
     header_of("list", PROGRAM_LIMIT),
     header_of("list", PROGRAM_LIMIT + 1),
     header_of("list", FILE_LIMIT + 1),
+    # The length comes before 20.
+    rounds_filled("header", 5_999, FILE_LIMIT),
+    rounds_filled("header", 5_999, FILE_LIMIT + 1),
+    rounds_filled("list", 5_999, PROGRAM_LIMIT),
+    rounds_filled("list", 5_999, PROGRAM_LIMIT + 1),
 )
 
 OPENED = (
@@ -348,6 +383,8 @@ OPENED = (
     open_of("aes", FORMER_LIMIT + 1, 4),
     long_header_vault("open", FILE_LIMIT),
     long_header_vault("open", FILE_LIMIT + 1),
+    rounds_filled("open", 5_999, FILE_LIMIT),
+    rounds_filled("open", 5_999, FILE_LIMIT + 1),
 )
 
 STEPPED = (
@@ -366,6 +403,8 @@ STEPPED = (
     steps_of("aes", FORMER_LIMIT, 3, at_3=FORMER_LIMIT + 1),
     long_header_vault("steps", FILE_LIMIT),
     long_header_vault("steps", FILE_LIMIT + 1),
+    rounds_filled("steps", 5_999, FILE_LIMIT),
+    rounds_filled("steps", 5_999, FILE_LIMIT + 1),
 )
 
 # As the former writer cut, up to the longest file that it made; as KeePass and the writer cut; a byte more than each;
@@ -418,6 +457,10 @@ TIES = (
     overlong("chacha", nonce=bytes(16).hex()),
     overlong("aes", kdf={"kind": "aeskdf", "S": bytes(31).hex(), "R": 6_000}),
     overlong("aes", kdf={"kind": "aeskdf", "S": bytes(32).hex(), "R": 4_000_001}),
+    overlong("aes", kdf={"kind": "aeskdf", "S": bytes(31).hex(), "R": 5_999}),
+    overlong("chacha", kdf={"kind": "aeskdf", "S": bytes(32).hex(), "R": 5_999}),
+    write_rounds(5_999, data=zeros(largest_payload("chacha") + 1)),
+    write_rounds(5_999, data=zeros(PAYLOAD_LIMIT + 1)),
 ) + tuple(
     overlong("chacha", kdf={"kind": kind, "S": bytes(32).hex(), "I": 2, "M": 8_192, "P": 1, **figure})
     for kind in ("argon2d", "argon2id")
@@ -572,8 +615,3 @@ BORDERS = (
     *HEADERS, *OPENED, *STEPPED, *CUTS, *WRITTEN, *TIES, *CREDENTIALS, *MESSAGES, *TRANSFORMED, *INNER, *DICTIONARIES,
     *STREAMS,
 )
-
-
-def border(rng, index):
-    """The request of that index."""
-    return BORDERS[index](rng)

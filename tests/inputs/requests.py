@@ -12,7 +12,8 @@ from model.keys import argon2_words
 from model.limits import FILE_LIMIT, STREAM_LIMIT, WRITTEN_BLOCK, Refusal
 
 from . import edits
-from .borders import BORDERS, border, seeds
+from .borders import BORDERS, seeds
+from .few_rounds import FEW_ROUNDS
 from .shapes import (
     Block, argon2_figures, attachment_run, enough_rounds, few_rounds, kdf_dictionary, sound_dictionary, sound_inner,
     sound_vault,
@@ -656,10 +657,13 @@ SHARES = {
 TABLE = [(op, make) for op, (share, make) in SHARES.items() for _ in range(share)]
 
 
+FIXED = BORDERS + FEW_ROUNDS  # asked in every run
+
+
 def request(seed, index):
-    """The request of an index; the first ones are those at the limits."""
+    """The request of an index; the first ones are the fixed ones."""
     rng = Random(f"{seed}:{index}")
-    if index < len(BORDERS):
-        return border(rng, index)
+    if index < len(FIXED):
+        return FIXED[index](rng)
     op, make = TABLE[rng.randrange(len(TABLE))]
     return {"op": op, **make(rng)}
