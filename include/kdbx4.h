@@ -18,11 +18,13 @@
 #include <stddef.h>
 #include <stdint.h>
 
-/* Limits: a file or a payload; a password or a key file; a message of a hash or tag; the rounds of AES-KDF. */
+/* Limits: a file or a payload; a password or a key file; a message of a hash or tag; the rounds of AES-KDF, and the least
+ * rounds of a vault that is read or written. */
 #define KDBX4_FILE_LIMIT 16777216
 #define KDBX4_CREDENTIAL_LIMIT 4194304
 #define KDBX4_MESSAGE_LIMIT 33554432
 #define KDBX4_ROUNDS_LIMIT 4000000
+#define KDBX4_ROUNDS_LEAST 6000
 
 /* The data of a block that is written, but for the last. Blocks of any size are read. */
 #define KDBX4_WRITTEN_BLOCK 1048576
@@ -73,7 +75,8 @@ void kdbx4_salsa20(const uint8_t key[32], const uint8_t nonce[8], uint64_t at, u
 uint8_t kdbx4_composite(const uint8_t *password, size_t p, uint8_t has_password, const uint8_t *key_file, size_t k,
                         uint8_t has_key_file, const uint8_t *pre_hash, size_t h, uint8_t has_pre_hash, uint8_t out[32]);
 
-/* AES-KDF: the transformed key T of a composite key, in one call. 11: over KDBX4_ROUNDS_LIMIT. */
+/* AES-KDF: the transformed key T of a composite key, in one call. 11: over KDBX4_ROUNDS_LIMIT. Fewer
+ * than KDBX4_ROUNDS_LEAST are taken here, and in parts: a vault with so few is refused by its header. */
 uint8_t kdbx4_aes_kdf(const uint8_t composite[32], const uint8_t seed[32], uint64_t rounds, uint8_t out[32]);
 
 /* AES-KDF in parts. `start`: 11, and a state that only 19 comes of. `advance`: at most n rounds more; `done` is how many
@@ -116,7 +119,7 @@ typedef struct {
     uint64_t lanes;  /* P of Argon2; 0 of AES-KDF */
 } kdbx4_header_figures;
 
-/* 1 to 11, 22. */
+/* 1 to 11, 20 (of AES-KDF, fewer than KDBX4_ROUNDS_LEAST rounds), 22. */
 uint8_t kdbx4_header(const uint8_t *file, size_t n, kdbx4_header_figures *figures);
 
 /* The text of the header listing: of a refused header too, so that only 17 is answered. A file over 65,536 bytes, the limit
@@ -138,12 +141,12 @@ uint8_t kdbx4_dictionary_find(const uint8_t *dictionary, size_t n, const uint8_t
 
 /* ---- Vaults under the transformed key T ---- */
 
-/* Whole: the payload over the front of `out`, and its length in `count`. 1 to 17, 22. */
+/* Whole: the payload over the front of `out`, and its length in `count`. 1 to 17, 20, 22. */
 uint8_t kdbx4_open(const uint8_t *file, size_t n, const uint8_t t[32], uint8_t *out, size_t room, size_t *count);
 
-/* Block by block. `start`: 1 to 13, 22; a refused start gives a closed state. `step`: the next block of the file, and what it
- * makes due; 17 and 19 leave the state as it was, any other refusal closes it. A step over a block of s bytes hands over at
- * most s + 15. After the closing block KDBX4_IS_ENDED(state) holds, and a further step is 19. */
+/* Block by block. `start`: 1 to 13, 20, 22; a refused start gives a closed state. `step`: the next block of the file, and what
+ * it makes due; 17 and 19 leave the state as it was, any other refusal closes it. A step over a block of s bytes hands over
+ * at most s + 15. After the closing block KDBX4_IS_ENDED(state) holds, and a further step is 19. */
 #define KDBX4_OPENER_STATE 410
 #define KDBX4_IS_ENDED(state) ((state)[0] == 2)
 uint8_t kdbx4_start(const uint8_t *file, size_t n, const uint8_t t[32], uint8_t state[KDBX4_OPENER_STATE]);
@@ -152,7 +155,7 @@ uint8_t kdbx4_step(uint8_t state[KDBX4_OPENER_STATE], const uint8_t *file, size_
 
 /* The vault of a minor version, cipher's identifier, master seed, nonce, KDF with its figures (salt, rounds or passes, and of
  * Argon2 memory and lanes), custom dictionary (no bytes where it is absent), T and payload: over the front of `out`, and its
- * length in `count`. 4, 9 (cipher or KDF not listed), 5, 11 of AES-KDF or 22 of Argon2, 10 or 6, 1, 17. */
+ * length in `count`. 4, 9 (cipher or KDF not listed), 5, 11 and 20 of AES-KDF or 22 of Argon2, 10 or 6, 1, 17. */
 uint8_t kdbx4_write(uint16_t minor, const uint8_t *cipher, size_t c, const uint8_t *seed, size_t s, const uint8_t *nonce,
                     size_t i, uint32_t kdf, const uint8_t *salt, size_t k, uint64_t rounds, uint64_t memory, uint32_t lanes,
                     const uint8_t *custom, size_t d, const uint8_t t[32], const uint8_t *payload, size_t n, uint8_t *out,
