@@ -75,8 +75,8 @@ void kdbx4_salsa20(const uint8_t key[32], const uint8_t nonce[8], uint64_t at, u
 uint8_t kdbx4_composite(const uint8_t *password, size_t p, uint8_t has_password, const uint8_t *key_file, size_t k,
                         uint8_t has_key_file, const uint8_t *pre_hash, size_t h, uint8_t has_pre_hash, uint8_t out[32]);
 
-/* AES-KDF: the transformed key T of a composite key, in one call. 11: over KDBX4_ROUNDS_LIMIT. Fewer
- * than KDBX4_ROUNDS_LEAST are taken here, and in parts: a vault with so few is refused by its header. */
+/* AES-KDF: the transformed key T of a composite key, in one call. 11: over KDBX4_ROUNDS_LIMIT. Fewer than KDBX4_ROUNDS_LEAST
+ * are taken here, and in parts: a vault with so few is refused by its header. */
 uint8_t kdbx4_aes_kdf(const uint8_t composite[32], const uint8_t seed[32], uint64_t rounds, uint8_t out[32]);
 
 /* AES-KDF in parts. `start`: 11, and a state that only 19 comes of. `advance`: at most n rounds more; `done` is how many
