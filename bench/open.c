@@ -103,7 +103,7 @@ static long peer_open(void) {
 
 // The payload block by block, each step lent what is left of the room: a number, of the start or the step that ended it.
 static uint8_t open_steps(size_t room) {
-    uint8_t state[KDBX4_OPENER_STATE], number = kdbx4_start(file, made.length, transformed, state);
+    uint8_t state[KDBX4_OPENER_STATE], number = kdbx4_start(file, made.length, transformed, state, &place);
     for (size_t done = 0, count = 0; number == 0 && !KDBX4_IS_ENDED(state); done += count)
         number = kdbx4_step(state, file, made.length, opened + done, room - done, &count);
     return number;
@@ -119,7 +119,7 @@ static int check_vault(enum cipher cipher, size_t block, size_t payload) {
     size_t count = 77;
     make(cipher, block, payload);
     memset(opened, 0xaa, payload + 1);
-    if (kdbx4_open(file, made.length, transformed, opened, payload, &count) != 0) return wrong("refused whole");
+    if (kdbx4_open(file, made.length, transformed, opened, payload, &count, &place) != 0) return wrong("refused whole");
     if (count != payload) return wrong("counted");
     if (memcmp(opened, message, payload) != 0 || opened[payload] != 0xaa) return wrong("opened whole");
     memset(opened, 0xaa, payload + 1);
@@ -129,13 +129,14 @@ static int check_vault(enum cipher cipher, size_t block, size_t payload) {
     return 1;
 }
 
-// Byte `at` of the vault changed: the whole opener answers the number, and leaves the output and the count.
+// Byte `at` of the vault changed: the whole opener answers the number, with the place 0, and leaves the output and the
+// count.
 static int check_refusal(size_t at, uint8_t expected) {
     size_t count = 77;
     file[at] ^= 1;
     untouched();
-    uint8_t whole = kdbx4_open(file, made.length, transformed, ours, sizeof ours, &count);
-    int kept = refused("a changed vault", whole, expected) && count == 77;
+    uint8_t whole = kdbx4_open(file, made.length, transformed, ours, sizeof ours, &count, &place);
+    int kept = refused("a changed vault", whole, expected) && count == 77 && place == 0;
     uint8_t steps = open_steps(sizeof opened);
     int closed = peer_open() == -1;
     file[at] ^= 1;
@@ -149,7 +150,7 @@ static int check_longest(enum cipher cipher) {
     if (!check_vault(cipher, 1 << 20, longest[cipher])) return 0;
     if (made.length + 16 <= KDBX4_FILE_LIMIT) return wrong("not the longest");
     untouched();
-    uint8_t number = kdbx4_open(file, KDBX4_FILE_LIMIT + 1, transformed, ours, sizeof ours, &count);
+    uint8_t number = kdbx4_open(file, KDBX4_FILE_LIMIT + 1, transformed, ours, sizeof ours, &count, &place);
     if (!refused("a file past the limit", number, 1) || count != 77) return 0;
     made.length = KDBX4_FILE_LIMIT + 1;
     number = open_steps(sizeof opened);
@@ -175,7 +176,7 @@ static int check(void) {
 #define OPENS(name, cipher, block)                                                                            \
     static void whole_##name(size_t n) {                                                                      \
         size_t count;                                                                                         \
-        make(cipher, block, n), kdbx4_open(file, made.length, transformed, opened, n, &count);                \
+        make(cipher, block, n), kdbx4_open(file, made.length, transformed, opened, n, &count, &place);        \
     }                                                                                                         \
     static void steps_##name(size_t n) { make(cipher, block, n), open_steps(n); }                             \
     static void peer_##name(size_t n) { make(cipher, block, n), peer_open(); }

@@ -16,6 +16,8 @@
 
 enum cipher { AES, CHACHA20 };
 
+static size_t place; // of a refusal
+
 static const uint8_t *const transformed = key; // T, and behind it the master seed
 #define SEED (key + 32)
 #define NONCE (message + 500)

@@ -82,7 +82,8 @@ static int check_vault(enum cipher cipher, size_t n) {
     if (write_ours(cipher, n, length, &count) != 0 || count != (size_t)length) return wrong("refused or miscounted", n);
     if (memcmp(written, peer_written, length) != 0) return wrong("differs from the peer's", n);
     if (written[length] != 0xaa) return wrong("written behind the room", n);
-    if (kdbx4_open(written, length, transformed, opened, n, &count) != 0 || count != n) return wrong("not opened", n);
+    uint8_t number = kdbx4_open(written, length, transformed, opened, n, &count, &place);
+    if (number != 0 || count != n) return wrong("not opened", n);
     return memcmp(opened, message, n) == 0 ? 1 : wrong("opened as another payload", n);
 }
 

@@ -1,8 +1,9 @@
 /* What the examples share: a vault is read and opened with a password, block by block.
  *
- * A refusal prints its number (docs/REFUSALS.md) to standard error, and the status is 1. The transformation of the key
- * is the long part: AES-KDF runs in parts that leave time for a screen or a watchdog, Argon2 in one call. To Argon2 a
- * firmware lends the words that it can spare: 17 refuses a vault that needs more, and 64 MiB are enough for any.
+ * A refusal prints its number (docs/REFUSALS.md), a reader's its place too, to standard error, and the status is 1.
+ * The transformation of the key is the long part: AES-KDF runs in parts that leave time for a screen or a watchdog,
+ * Argon2 in one call. To Argon2 a firmware lends the words that it can spare: 17 refuses a vault that needs more, and
+ * 64 MiB are enough for any.
  *
  * The arrays here take every vault: 16 MiB for the file, 16 for the payload and 64 for Argon2, on the board with 128.
  * The terminal with 8 MiB cannot hold a file of 16 MiB: it makes the arrays as large as it has room for, and refuses a
@@ -33,12 +34,16 @@ static void leave(int status) {
     exit(status);
 }
 
-/* Goes on where a call was accepted. */
-static void check(const char *what, uint8_t number) {
+/* Goes on where a call was accepted. A reader tells where the fault is: the byte of the file, or of the payload. */
+static void check_at(const char *what, uint8_t number, size_t place) {
     if (number == 0) return;
-    fprintf(stderr, "%s: refused with %d\n", what, number);
+    fprintf(stderr, "%s: refused with %d", what, number);
+    if (place != 0) fprintf(stderr, " at byte %zu", place);
+    fputc('\n', stderr);
     leave(1);
 }
+
+static void check(const char *what, uint8_t number) { check_at(what, number, 0); }
 
 /* T by AES-KDF, of a composite key and a header's figures. */
 static void transform(const kdbx4_header_figures *header) {
@@ -60,8 +65,9 @@ static void transform_argon2(const kdbx4_header_figures *header) {
 
 /* The payload, block by block: its length. A step is handed the whole file, and what is left of the room. */
 static size_t open_blocks(size_t n) {
-    size_t length = 0, count;
-    check("start", kdbx4_start(file, n, secret.t, secret.opener));
+    size_t length = 0, count, place;
+    uint8_t number = kdbx4_start(file, n, secret.t, secret.opener, &place);
+    check_at("start", number, place);
     while (!KDBX4_IS_ENDED(secret.opener)) {
         check("block", kdbx4_step(secret.opener, file, n, payload + length, sizeof payload - length, &count));
         length += count;
@@ -78,13 +84,15 @@ static size_t open_vault(const char *path, char *password, kdbx4_inner_figures *
 
     const uint8_t none[1] = {0};
     kdbx4_header_figures header;
-    check("header", kdbx4_header(file, n, &header));
-    size_t p = strlen(password);
+    size_t place, p = strlen(password);
+    uint8_t number = kdbx4_header(file, n, &header, &place);
+    check_at("header", number, place);
     check("password", kdbx4_composite((const uint8_t *)password, p, 1, none, 0, 0, none, 0, 0, secret.composite));
     clear(password, p);
     header.kdf == KDBX4_AES_KDF ? transform(&header) : transform_argon2(&header);
 
     size_t length = open_blocks(n);
-    check("inner header", kdbx4_inner(payload, length, inner));
+    number = kdbx4_inner(payload, length, inner, &place);
+    check_at("inner header", number, place);
     return length;
 }

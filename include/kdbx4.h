@@ -3,6 +3,12 @@
  * A function that can refuse answers a number: 0 is success, any other is a refusal (docs/REFUSALS.md). A refusal changes
  * no byte of an output, a count or figures. A success changes the bytes due at the front of an output, and none behind them.
  *
+ * A reader (of a header, a dictionary, a vault, an inner header) always writes `place`: where the fault is that a refusal
+ * names, counted in bytes from the front of the file, dictionary or payload that it was handed. 2 to 11, 20 and 22 of a
+ * header or a dictionary have one: 2 the input's length, 3 and 4 the bytes that differ, 8 the end field, any other the first
+ * byte of the field or of the dictionary's item at fault, or where the dictionary begins if it is no item's. It is 0 beside
+ * every other number, beside those of the hash, the tag and the blocks behind a header, and on success.
+ *
  * A state (of a hash, of the key transformation, of an opening, of an inner stream) is an array that the caller lends. It is
  * bytes to be kept and handed back, and may be copied. Every value of the bytes is answered. An opening whose mark, cipher or
  * numbers no call leaves, zeros too, counts as closed: every step is 19. A key transformation whose mark or counts no call
@@ -120,7 +126,7 @@ typedef struct {
 } kdbx4_header_figures;
 
 /* 1 to 11, 20 (of AES-KDF, fewer than KDBX4_ROUNDS_LEAST rounds), 22. */
-uint8_t kdbx4_header(const uint8_t *file, size_t n, kdbx4_header_figures *figures);
+uint8_t kdbx4_header(const uint8_t *file, size_t n, kdbx4_header_figures *figures, size_t *place);
 
 /* The text of the header listing: of a refused header too, so that only 17 is answered. A file over 65,536 bytes, the limit
  * of a PC program's input, lists as R01. */
@@ -129,7 +135,7 @@ uint8_t kdbx4_list(const uint8_t *file, size_t n, uint8_t *out, size_t room, siz
 /* ---- Dictionaries ---- */
 
 /* 10 or 6, or 0 of a sound dictionary. */
-uint8_t kdbx4_dictionary_check(const uint8_t *dictionary, size_t n);
+uint8_t kdbx4_dictionary_check(const uint8_t *dictionary, size_t n, size_t *place);
 
 /* What a name is found as: `found` is 0 and all else too where a sound dictionary has no such name. */
 typedef struct {
@@ -137,19 +143,21 @@ typedef struct {
     kdbx4_place value;
 } kdbx4_found;
 
-uint8_t kdbx4_dictionary_find(const uint8_t *dictionary, size_t n, const uint8_t *name, size_t k, kdbx4_found *found);
+uint8_t kdbx4_dictionary_find(const uint8_t *dictionary, size_t n, const uint8_t *name, size_t k, kdbx4_found *found,
+                              size_t *place);
 
 /* ---- Vaults under the transformed key T ---- */
 
 /* Whole: the payload over the front of `out`, and its length in `count`. 1 to 17, 20, 22. */
-uint8_t kdbx4_open(const uint8_t *file, size_t n, const uint8_t t[32], uint8_t *out, size_t room, size_t *count);
+uint8_t kdbx4_open(const uint8_t *file, size_t n, const uint8_t t[32], uint8_t *out, size_t room, size_t *count,
+                   size_t *place);
 
 /* Block by block. `start`: 1 to 13, 20, 22; a refused start gives a closed state. `step`: the next block of the file, and what
  * it makes due; 17 and 19 leave the state as it was, any other refusal closes it. A step over a block of s bytes hands over
  * at most s + 15. After the closing block KDBX4_IS_ENDED(state) holds, and a further step is 19. */
 #define KDBX4_OPENER_STATE 410
 #define KDBX4_IS_ENDED(state) ((state)[0] == 2)
-uint8_t kdbx4_start(const uint8_t *file, size_t n, const uint8_t t[32], uint8_t state[KDBX4_OPENER_STATE]);
+uint8_t kdbx4_start(const uint8_t *file, size_t n, const uint8_t t[32], uint8_t state[KDBX4_OPENER_STATE], size_t *place);
 uint8_t kdbx4_step(uint8_t state[KDBX4_OPENER_STATE], const uint8_t *file, size_t n, uint8_t *out, size_t room,
                    size_t *count);
 
@@ -177,8 +185,9 @@ typedef struct {
 } kdbx4_attachment_figures;
 
 /* 1, 2, 5 to 9. An attachment counts from 0; 8 past the last. */
-uint8_t kdbx4_inner(const uint8_t *payload, size_t n, kdbx4_inner_figures *figures);
-uint8_t kdbx4_attachment(const uint8_t *payload, size_t n, size_t index, kdbx4_attachment_figures *figures);
+uint8_t kdbx4_inner(const uint8_t *payload, size_t n, kdbx4_inner_figures *figures, size_t *place);
+uint8_t kdbx4_attachment(const uint8_t *payload, size_t n, size_t index, kdbx4_attachment_figures *figures,
+                         size_t *place);
 
 /* The payload of an algorithm, a key, a run of attachment fields and a document. 9, then 2, 7, 5 of the run, 1, 17. */
 uint8_t kdbx4_inner_write(uint32_t algorithm, const uint8_t *key, size_t k, const uint8_t *run, size_t r,

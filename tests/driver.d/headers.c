@@ -21,9 +21,10 @@ static void answer_custom(request *q, kdbx4_place custom) {
 void op_header(request *q) {
     slice file = field_bytes(q, q->asked, "data");
     kdbx4_header_figures *f = lend(q, sizeof *f);
-    uint8_t no = kdbx4_header(file.at, file.length, f);
+    size_t *place = lend(q, sizeof *place);
+    uint8_t no = kdbx4_header(file.at, file.length, f, place);
     see(q, no, f, sizeof *f, sizeof *f);
-    if (!answer_no(q, no)) return;
+    if (!answer_read(q, no, place)) return;
     answer_number(q, "minor", f->minor);
     answer_cipher(q, f->cipher);
     answer_number(q, "length", f->length);
@@ -49,15 +50,18 @@ void op_list(request *q) {
 
 void op_dict(request *q) {
     slice dictionary = field_bytes(q, q->asked, "data");
-    answer_no(q, kdbx4_dictionary_check(dictionary.at, dictionary.length));
+    size_t *place = lend(q, sizeof *place);
+    uint8_t no = kdbx4_dictionary_check(dictionary.at, dictionary.length, place);
+    answer_read(q, no, place);
 }
 
 void op_lookup(request *q) {
     slice dictionary = field_bytes(q, q->asked, "data"), name = field_bytes(q, q->asked, "name");
     kdbx4_found *found = lend(q, sizeof *found);
-    uint8_t no = kdbx4_dictionary_find(dictionary.at, dictionary.length, name.at, name.length, found);
+    size_t *place = lend(q, sizeof *place);
+    uint8_t no = kdbx4_dictionary_find(dictionary.at, dictionary.length, name.at, name.length, found, place);
     see(q, no, found, sizeof *found, sizeof *found);
-    if (!answer_no(q, no)) return;
+    if (!answer_read(q, no, place)) return;
     json_key(&q->answer, "found");
     json_bool(&q->answer, found->found != 0);
     if (found->found == 0) return;

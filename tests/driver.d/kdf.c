@@ -13,7 +13,8 @@ enum { KINDS = sizeof names / sizeof *names };
 static uint64_t version_of(request *q, slice dictionary) {
     slice name = lend_input(q, (slice){(const uint8_t *)"V", 1}, 1);
     kdbx4_found *v = lend(q, sizeof *v);
-    uint8_t no = kdbx4_dictionary_find(dictionary.at, dictionary.length, name.at, name.length, v);
+    size_t *place = lend(q, sizeof *place);
+    uint8_t no = kdbx4_dictionary_find(dictionary.at, dictionary.length, name.at, name.length, v, place);
     if (no != 0 || v->found == 0 || v->value.length != 4) request_fault(q, "no V in an accepted KDF dictionary");
     const uint8_t *at = stretch(q, dictionary, v->value).at;
     return at[0] | (uint64_t)at[1] << 8 | (uint64_t)at[2] << 16 | (uint64_t)at[3] << 24;

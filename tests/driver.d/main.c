@@ -3,8 +3,10 @@
  *
  * An object has the operation's name in "op" and its fields. Bytes are lower-case hexadecimal; those of a request may
  * also be {"zeros": n}, so many zeros. An absent field is absent; fields that the operation does not have are not
- * looked at. The answer has the library's number in "no"; after a refusal nothing else but "touched": true, if a lent
- * byte, count or figure is not as it was. After a success "touched" says that bytes behind those due have changed.
+ * looked at. The answer has the library's number in "no"; after a refusal nothing else but "place", of the readers
+ * `header`, `dict`, `lookup`, `open`, `steps` (its start), `inner` and `attachment`, and "touched": true, if a lent
+ * byte, count or figure is not as it was. After a success "touched" says that bytes behind those due have changed, or
+ * that a reader's place is not 0.
  * Outputs are filled with A5 before each call.
  *
  *   op           asks                                           answers on 0
@@ -37,7 +39,7 @@
  *   a refused feed the state is to be as it was, else "touched".
  * - Each of the `steps` has all three: after a refusal a count of 0 and no bytes, which is document 01's "zero in every
  *   other answer". "touched" stands in the step's own object; after 17 and 19 the state too is to be as it was. A
- *   refused start answers its number alone.
+ *   refused start answers its number and place alone.
  * - Each part of `streams` is lent enough; a refused one has its number alone, and the state is to be as it was, else
  *   "touched" stands in the part's own object. A refused start answers its number alone.
  * - T of `rounds` is asked for once, behind the helpings: T_no is the number of that.

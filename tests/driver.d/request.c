@@ -160,6 +160,13 @@ bool answer_no(request *q, uint8_t no) {
     return no == 0;
 }
 
+bool answer_read(request *q, uint8_t no, const size_t *place) {
+    if (no == 0 && *place != 0) q->touched = true;
+    if (answer_no(q, no)) return true;
+    answer_number(q, "place", *place);
+    return false;
+}
+
 void answer_number(request *q, const char *name, uint64_t value) {
     json_key(&q->answer, name);
     json_number(&q->answer, value);

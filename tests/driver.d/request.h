@@ -74,6 +74,8 @@ slice stretch(request *q, slice bytes, kdbx4_place place);
 
 /* The number, and whether more is to be answered. */
 bool answer_no(request *q, uint8_t no);
+/* .. of a reader, whose place is answered beside a refusal, and is to be 0 beside a success. */
+bool answer_read(request *q, uint8_t no, const size_t *place);
 void answer_number(request *q, const char *name, uint64_t value);
 void answer_bytes(request *q, const char *name, slice bytes);
 void answer_place(request *q, const char *name, kdbx4_place place);

@@ -15,12 +15,12 @@ static size_t enough_to_write(const vault_asked *v) { return 2 * v->payload.leng
 void op_open(request *q) {
     slice file = field_bytes(q, q->asked, "data");
     const uint8_t *t = field_array_of(q, q->asked, "T", 32);
-    size_t room = field_lent(q, enough_to_open(file)), *count = lend(q, sizeof *count);
+    size_t room = field_lent(q, enough_to_open(file)), *count = lend(q, sizeof *count), *place = lend(q, sizeof *place);
     uint8_t *out = lend(q, room);
-    uint8_t no = kdbx4_open(file.at, file.length, t, out, room, count);
+    uint8_t no = kdbx4_open(file.at, file.length, t, out, room, count, place);
     see(q, no, count, sizeof *count, sizeof *count);
     see(q, no, out, room, *count);
-    if (!answer_no(q, no)) return;
+    if (!answer_read(q, no, place)) return;
     answer_number(q, "length", *count);
     answer_bytes(q, "payload", (slice){out, *count});
 }
@@ -61,8 +61,10 @@ void op_steps(request *q) {
     const json_value *lents = field_array(q, "lents");
     const json_value *lengths = field_find(q->asked, "file_lengths") ? field_object(q, "file_lengths") : NULL;
     uint8_t *state = lend(q, KDBX4_OPENER_STATE);
+    size_t *place = lend(q, sizeof *place);
     uint64_t k = 0;
-    if (!answer_no(q, kdbx4_start(file.at, file.length, t, state))) return;
+    uint8_t no = kdbx4_start(file.at, file.length, t, state, place);
+    if (!answer_read(q, no, place)) return;
     json_key(&q->answer, "steps");
     json_begin(&q->answer, '[');
     for (const json_value *lent = lents->first; lent; lent = lent->next, k++) {

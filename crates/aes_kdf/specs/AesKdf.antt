@@ -78,7 +78,7 @@ unfoldable pub start : List ℕ → List ℕ → ℕ → Started
 start composite seed r =
     cond (leb r roundsLimit)
     (record { outcome = Accepted; next = after composite seed r 0 })
-    (record { outcome = Refused TooManyRounds; next = refused })
+    (record { outcome = Refused (TooManyRounds 0); next = refused })
 
 -- accepted, with no more rounds asked for than the limit and no more done than asked for
 unfoldable pub isOpen : Transforming → Bool

@@ -75,7 +75,7 @@ impl Transformation {
             };
         }
         Started {
-            outcome: Outcome::Refused(Refusal::TooManyRounds),
+            outcome: Outcome::Refused(Refusal::TooManyRounds(0)),
             next: Transformation::refuse(),
         }
     }

@@ -55,7 +55,7 @@ outcome i bytes lent =
     (cond (leb (length (prehash i)) messageLimit)
     (cond (ltb lent (used i)) (Refused NoRoom) Accepted)
     (Refused TooLong))
-    (Refused FigureOutside)
+    (Refused (FigureOutside 0))
 
 -- the memory m after a run: its used part as zeros
 unfoldable pub left : Outcome → Inputs → List ℕ → List ℕ

@@ -126,7 +126,7 @@ pub fn hash(
         }
         return Outcome::Refused(Refusal::TooLong);
     }
-    Outcome::Refused(Refusal::FigureOutside)
+    Outcome::Refused(Refusal::FigureOutside(0))
 }
 
 // T of a vault's composite key: salt S, passes I, memory M in bytes, lanes P.

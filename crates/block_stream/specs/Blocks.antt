@@ -48,17 +48,17 @@ found n = cond (eqb n 0) Closing (Data n)
 
 -- negative size (5), data present (2), tag (14)
 unfoldable pub judgeSize : List ℕ → List ℕ → ℕ → ℕ → Size → Block
-judgeSize base f i p Negative = Refused WrongSize
+judgeSize base f i p Negative = Refused (WrongSize 0)
 judgeSize base f i p (Of n) =
     cond (leb n (length f - (p + 36)))
     (cond (holds base f i p n) (found n) (Refused BlockTag))
-    (Refused CutShort)
+    (Refused (CutShort 0))
 
 -- the block at p of a file, as block i: 1, 36 bytes present (2)
 unfoldable pub judge : List ℕ → List ℕ → ℕ → ℕ → Block
 judge base f i p =
     cond (leb (length f) fileLimit)
-    (cond (leb (p + 36) (length f)) (judgeSize base f i p (int32 (le 4 f (p + 32)))) (Refused CutShort))
+    (cond (leb (p + 36) (length f)) (judgeSize base f i p (int32 (le 4 f (p + 32)))) (Refused (CutShort 0)))
     (Refused TooLong)
 
 -- the data of the block at p, n bytes

@@ -49,11 +49,11 @@ fn judge_size(f: &[u8], base: [u8; 64], number: u64, at: usize) -> Block
     ensures { λ r. ⌜ r ≡ blocks.judgeSize base (now (f .entry)) number at (int32 (le 4 (now (f .entry)) (at + 32))) ⌝ }
 {
     match words::le::size_at(f, at + 32) {
-        Size::Negative => return Block::Refused(Refusal::WrongSize),
+        Size::Negative => return Block::Refused(Refusal::WrongSize(0)),
         Size::Of(size) => {
             let n = size as usize;
             if f.len() - (at + 36) < n {
-                return Block::Refused(Refusal::CutShort);
+                return Block::Refused(Refusal::CutShort(0));
             }
             if tag_holds(f, base, number, at, n) {
                 if n == 0 {
@@ -72,12 +72,12 @@ pub fn judge(f: &[u8], base: [u8; 64], number: u64, at: usize) -> Block
 {
     if refusals::limits::file_fits(f.len()) {
         if f.len() < 36 {
-            return Block::Refused(Refusal::CutShort);
+            return Block::Refused(Refusal::CutShort(0));
         }
         if at <= f.len() - 36 {
             return judge_size(f, base, number, at);
         }
-        return Block::Refused(Refusal::CutShort);
+        return Block::Refused(Refusal::CutShort(0));
     }
     Block::Refused(Refusal::TooLong)
 }

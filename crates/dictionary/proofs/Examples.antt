@@ -8,8 +8,7 @@ use Prim.Native.Nat.{ℕ}
 use Rattle.words.specs.Endian.{le, leBytes}
 use Rattle.words.specs.Size.{int32}
 use Rattle.slices.specs.Same.{same}
-use Rattle.refusals.specs.declared.Refusal.the-variants.{BrokenDictionary, Repeated}
-use Rattle.refusals.specs.declared.Outcome.the-variants.{Accepted, Refused}
+use Rattle.dictionary.specs.declared.Verdict.the-variants as verdictIs
 use Rattle.dictionary.specs.Dictionary.{
   sizeFits,
   valueAt,
@@ -24,17 +23,17 @@ use Rattle.dictionary.specs.Dictionary.{
 }
 
 -- the version and the last byte
-verdict-empty : verdict (0x00 ∷ 0x01 ∷ 0x00 ∷ []) ≡ Accepted
+verdict-empty : verdict (0x00 ∷ 0x01 ∷ 0x00 ∷ []) ≡ verdictIs.Sound
 unfolding verdict walk walkIn entryAt
 verdict-empty = refl
 
 -- the version's bytes the other way round
-verdict-version : verdict (0x01 ∷ 0x00 ∷ 0x00 ∷ []) ≡ Refused BrokenDictionary
+verdict-version : verdict (0x01 ∷ 0x00 ∷ 0x00 ∷ []) ≡ verdictIs.Broken 0
 unfolding verdict
 verdict-version = refl
 
 -- a byte behind the last
-verdict-behind : verdict (0x00 ∷ 0x01 ∷ 0x00 ∷ 0x00 ∷ []) ≡ Refused BrokenDictionary
+verdict-behind : verdict (0x00 ∷ 0x01 ∷ 0x00 ∷ 0x00 ∷ []) ≡ verdictIs.Broken 0
 unfolding verdict walk walkIn entryAt
 verdict-behind = refl
 
@@ -42,6 +41,6 @@ verdict-behind = refl
 abbrev repeated : List ℕ
 repeated = 0x00 ∷ 0x01 ∷ itemBytes 0x18 (0x41 ∷ []) [] ++ itemBytes 0x18 (0x41 ∷ []) [] ++ (0x00 ∷ [])
 
-verdict-repeated : verdict repeated ≡ Refused Repeated
+verdict-repeated : verdict repeated ≡ verdictIs.Repeated 12
 unfolding verdict walk walkIn named namedIn entryAt nameAt valueAt sizeFits same int32 le leBytes itemBytes
 verdict-repeated = refl

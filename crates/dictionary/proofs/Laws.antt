@@ -21,3 +21,5 @@ pub mod Insert
 pub mod Table
 pub mod Judge
 pub mod Verdict
+-- a verdict's place lies within the dictionary
+pub mod Within

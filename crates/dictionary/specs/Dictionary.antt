@@ -11,6 +11,10 @@
 --    one is refused with 10 or 6. A name that isn't there is answered as
 --    absent"                                                              find
 --   "shows that stretch of the dictionary itself .. with nothing shown"   shown, lookup
+--   document 02, Item 8: "the first byte .. of the dictionary item at
+--    fault", the second one of a repeated name                            valueAt, nameAt, entryAt, walkIn
+--   "a dictionary fault that belongs to no item points to where the
+--    dictionary's value begins": place 0                                  entryAt, verdict
 -- A walk counts its items down from the dictionary's length: an item has nine bytes or more, so the count never ends it
 -- (proofs, Laws.Enough).
 -- Not here: what a KDF dictionary needs, and the one that is written (crate kdf_dictionary).
@@ -26,8 +30,8 @@ use Rattle.words.specs.declared.le.Size.{Size}
 use Rattle.words.specs.declared.le.Size.the-variants.{Of, Negative}
 use Rattle.slices.specs.Same.{same}
 use Rattle.refusals.specs.declared.Refusal.the-variants.{BrokenDictionary, Repeated}
-use Rattle.refusals.specs.declared.Outcome.{Outcome}
-use Rattle.refusals.specs.declared.Outcome.the-variants as outcome
+use Rattle.dictionary.specs.declared.Verdict.{Verdict}
+use Rattle.dictionary.specs.declared.Verdict.the-variants as verdictIs
 use Rattle.dictionary.specs.declared.Item.{Item}
 use Rattle.dictionary.specs.declared.Entry.{Entry}
 use Rattle.dictionary.specs.declared.Entry.the-variants as entry
@@ -52,23 +56,24 @@ itemAt s at n v =
 
 -- value size not negative, value present, size fitting
 unfoldable pub valueAt : List ℕ → ℕ → ℕ → Size → Entry
-valueAt s at n Negative = entry.Broken
+valueAt s at n Negative = entry.Broken at
 valueAt s at n (Of v) =
-    cond (ltb (length s - (at + 5 + n + 4)) v) entry.Broken
-    (cond (sizeFits (getD s at 0) v) (entry.Item (itemAt s at n v)) entry.Broken)
+    cond (ltb (length s - (at + 5 + n + 4)) v) (entry.Broken at)
+    (cond (sizeFits (getD s at 0) v) (entry.Item (itemAt s at n v)) (entry.Broken at))
 
 -- name size not negative, the name and the four bytes of the value size present
 unfoldable pub nameAt : List ℕ → ℕ → Size → Entry
-nameAt s at Negative = entry.Broken
+nameAt s at Negative = entry.Broken at
 nameAt s at (Of n) =
-    cond (ltb (length s - (at + 5)) (n + 4)) entry.Broken (valueAt s at n (int32 (le 4 s (at + 5 + n))))
+    cond (ltb (length s - (at + 5)) (n + 4)) (entry.Broken at) (valueAt s at n (int32 (le 4 s (at + 5 + n))))
 
--- what stands at a place: the last byte is 0, and an item begins with its type and four bytes of the name size
+-- what stands at a place: the last byte is 0, and an item begins with its type and four bytes of the name size; a
+-- missing last byte and bytes behind it are no item's fault
 unfoldable pub entryAt : List ℕ → ℕ → Entry
 entryAt s at =
-    cond (leb (length s) at) entry.Broken
-    (cond (eqb (getD s at 0) 0) (cond (eqb (length s - at) 1) entry.End entry.Broken)
-    (cond (ltb (length s - at) 5) entry.Broken (nameAt s at (int32 (le 4 s (at + 1))))))
+    cond (leb (length s) at) (entry.Broken 0)
+    (cond (eqb (getD s at 0) 0) (cond (eqb (length s - at) 1) entry.End (entry.Broken 0))
+    (cond (ltb (length s - at) 5) (entry.Broken at) (nameAt s at (int32 (le 4 s (at + 1))))))
 
 abbrev pub nameOf : List ℕ → Item → List ℕ
 nameOf s i = take (i .«name_len») (drop (i .name) s)
@@ -84,7 +89,7 @@ next i = i .value + i .«value_len»
 unfoldable pub namedIn : List ℕ → List ℕ → Entry → (ℕ → Bool) → Bool
 namedIn s name (entry.Item i) rest = cond (same (nameOf s i) name) true (rest (next i))
 namedIn s name entry.End rest = false
-namedIn s name entry.Broken rest = false
+namedIn s name (entry.Broken b) rest = false
 
 unfoldable pub named : ℕ → List ℕ → ℕ → ℕ → List ℕ → Bool
 named zero s at stop name = false
@@ -92,37 +97,38 @@ named (suc k) s at stop name =
     cond (leb stop at) false (namedIn s name (entryAt s at) (λ (n : ℕ). named k s n stop name))
 
 -- the items from `at` on, the first k of them: the first fault is given
-unfoldable pub walkIn : List ℕ → ℕ → Entry → (ℕ → Outcome) → Outcome
+unfoldable pub walkIn : List ℕ → ℕ → Entry → (ℕ → Verdict) → Verdict
 walkIn s at (entry.Item i) rest =
-    cond (named (length s) s 2 at (nameOf s i)) (outcome.Refused Repeated) (rest (next i))
-walkIn s at entry.End rest = outcome.Accepted
-walkIn s at entry.Broken rest = outcome.Refused BrokenDictionary
+    cond (named (length s) s 2 at (nameOf s i)) (verdictIs.Repeated at) (rest (next i))
+walkIn s at entry.End rest = verdictIs.Sound
+walkIn s at (entry.Broken b) rest = verdictIs.Broken b
 
-unfoldable pub walk : ℕ → List ℕ → ℕ → Outcome
-walk zero s at = outcome.Refused BrokenDictionary
+unfoldable pub walk : ℕ → List ℕ → ℕ → Verdict
+walk zero s at = verdictIs.Broken 0
 walk (suc k) s at = walkIn s at (entryAt s at) (walk k s)
 
 -- the version's high byte is the second one
-unfoldable pub verdict : List ℕ → Outcome
+unfoldable pub verdict : List ℕ → Verdict
 verdict s =
-    cond (ltb (length s) 3) (outcome.Refused BrokenDictionary)
-    (cond (eqb (getD s 1 0) 1) (walk (length s) s 2) (outcome.Refused BrokenDictionary))
+    cond (ltb (length s) 3) (verdictIs.Broken 0)
+    (cond (eqb (getD s 1 0) 1) (walk (length s) s 2) (verdictIs.Broken 0))
 
 -- the item of the name from `at` on, among the first k
 unfoldable pub searchIn : List ℕ → List ℕ → Entry → (ℕ → Found) → Found
 searchIn s name (entry.Item i) rest =
     cond (same (nameOf s i) name) (found.At (i .kind) (i .value) (i .«value_len»)) (rest (next i))
 searchIn s name entry.End rest = found.Absent
-searchIn s name entry.Broken rest = found.Absent
+searchIn s name (entry.Broken b) rest = found.Absent
 
 unfoldable pub searchFrom : ℕ → List ℕ → ℕ → List ℕ → Found
 searchFrom zero s at name = found.Absent
 searchFrom (suc k) s at name = searchIn s name (entryAt s at) (λ (n : ℕ). searchFrom k s n name)
 
 -- the verdict first, then the item of the name
-unfoldable pub findIn : Outcome → List ℕ → List ℕ → Found
-findIn outcome.Accepted s name = searchFrom (length s) s 2 name
-findIn (outcome.Refused r) s name = found.Refused r
+unfoldable pub findIn : Verdict → List ℕ → List ℕ → Found
+findIn verdictIs.Sound s name = searchFrom (length s) s 2 name
+findIn (verdictIs.Broken at) s name = found.Refused (BrokenDictionary at)
+findIn (verdictIs.Repeated at) s name = found.Refused (Repeated at)
 
 unfoldable pub find : List ℕ → List ℕ → Found
 find s name = findIn (verdict s) s name

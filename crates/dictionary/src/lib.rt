@@ -4,15 +4,14 @@
 //
 // The contracts cite specs/Dictionary. An item is told by its places in the dictionary, and nothing is copied.
 // Refusals: 10 for any fault of the form, 6 for a sound item whose name an earlier item has; the first met from the
-// front is given. Repeated names are searched for in batches (repeats): with a table of 64 places on the stack, and
-// where there are more items with one of 4,096 (16 KiB).
+// front is given, with the place of its item, or 0 where it is no item's. Repeated names are searched for in batches
+// (repeats): with a table of 64 places on the stack, and where there are more items with one of 4,096 (16 KiB).
 ghost use mathlib.Core.Path.{_≡_};
 ghost use Prim.Native.Nat.{_+_, _≤_};
 ghost use lib.ListN.{length};
 ghost use Rattle.words.specs.Endian.{le};
 ghost use Rattle.words.specs.Size.{int32};
 ghost use Rattle.dictionary.specs.Dictionary as dictionary;
-use refusals::Outcome;
 use refusals::Refusal;
 use repeats::Batch;
 use words::le::Size;
@@ -33,7 +32,14 @@ pub struct Item {
 pub enum Entry {
     Item(Item),
     End,
-    Broken,
+    Broken(usize),
+}
+
+// What a check comes to: sound; or the first fault, with the place of the item at fault, 0 where it is no item's.
+pub enum Verdict {
+    Sound,
+    Broken(usize),
+    Repeated(usize),
 }
 
 // What a name is found as: the type and place of its value, absent, or that the dictionary is refused.
@@ -80,11 +86,11 @@ fn value_at(s: &[u8], at: usize, n: usize) -> Entry
     let name = at + 5;
     let value = name + n + 4;
     match words::le::size_at(s, name + n) {
-        Size::Negative => Entry::Broken,
+        Size::Negative => Entry::Broken(at),
         Size::Of(v) => {
             let len = v as usize;
             if s.len() - value < len {
-                return Entry::Broken;
+                return Entry::Broken(at);
             }
             if size_fits(s[at], len) {
                 return Entry::Item(Item {
@@ -95,7 +101,7 @@ fn value_at(s: &[u8], at: usize, n: usize) -> Entry
                     value_len: len,
                 });
             }
-            Entry::Broken
+            Entry::Broken(at)
         }
     }
 }
@@ -105,23 +111,23 @@ pub fn entry_at(s: &[u8], at: usize) -> Entry
     ensures { λ r. ⌜ r ≡ dictionary.entryAt (now (s .entry)) at ⌝ }
 {
     if s.len() <= at {
-        return Entry::Broken;
+        return Entry::Broken(0);
     }
     if s[at] == 0 {
         if s.len() - at == 1 {
             return Entry::End;
         }
-        return Entry::Broken;
+        return Entry::Broken(0);
     }
     if s.len() - at < 5 {
-        return Entry::Broken;
+        return Entry::Broken(at);
     }
     match words::le::size_at(s, at + 1) {
-        Size::Negative => return Entry::Broken,
+        Size::Negative => return Entry::Broken(at),
         Size::Of(v) => {
             let n = v as usize;
             if s.len() - (at + 5) < n + 4 {
-                return Entry::Broken;
+                return Entry::Broken(at);
             }
             return value_at(s, at, n);
         }
@@ -129,17 +135,17 @@ pub fn entry_at(s: &[u8], at: usize) -> Entry
 }
 
 // Whether a dictionary is sound, or its first fault. Few items fit a small table; many are judged in batches.
-pub fn check(s: &[u8]) -> Outcome
+pub fn check(s: &[u8]) -> Verdict
     ensures { λ r. ⌜ r ≡ dictionary.verdict (now (s .entry)) ⌝ }
 {
     if s.len() < 3 {
-        return Outcome::Refused(Refusal::BrokenDictionary);
+        return Verdict::Broken(0);
     }
     if s[1] != 1 {
-        return Outcome::Refused(Refusal::BrokenDictionary);
+        return Verdict::Broken(0);
     }
     let mut t = [0u32; 64];
-    match repeats::fill(s, 2, &mut t) {
+    match repeats::fill(s, 2, s.len(), &mut t) {
         Batch::Done(o) => return o,
         Batch::Full { held: _, next: _ } => return repeats::judge(s),
     }
@@ -154,7 +160,7 @@ pub fn search(s: &[u8], name: &[u8]) -> Found
     while 0 < left {
         match entry_at(s, at) {
             Entry::End => return Found::Absent,
-            Entry::Broken => return Found::Absent,
+            Entry::Broken(_) => return Found::Absent,
             Entry::Item(i) => {
                 if slices::same(slices::part(s, i.name, i.name_len), name) {
                     return Found::At {
@@ -176,8 +182,9 @@ pub fn find(s: &[u8], name: &[u8]) -> Found
     ensures { λ r. ⌜ r ≡ dictionary.find (now (s .entry)) (now (name .entry)) ⌝ }
 {
     match check(s) {
-        Outcome::Accepted => return search(s, name),
-        Outcome::Refused(r) => return Found::Refused(r),
+        Verdict::Sound => return search(s, name),
+        Verdict::Broken(at) => return Found::Refused(Refusal::BrokenDictionary(at)),
+        Verdict::Repeated(at) => return Found::Refused(Refusal::Repeated(at)),
     }
 }
 

@@ -40,16 +40,16 @@ use Rattle.explanations.specs.Sentences.{ascii, sentence, held}
 pub sentence-room : (r : Refusal) → length (sentence r) ≤ 192
 unfolding ascii sentence
 sentence-room TooLong = omega arith
-sentence-room CutShort = omega arith
-sentence-room WrongSignature = omega arith
-sentence-room WrongVersion = omega arith
-sentence-room WrongSize = omega arith
-sentence-room Repeated = omega arith
-sentence-room UnknownField = omega arith
-sentence-room Absent = omega arith
-sentence-room Unlisted = omega arith
-sentence-room BrokenDictionary = omega arith
-sentence-room TooManyRounds = omega arith
+sentence-room (CutShort at) = omega arith
+sentence-room (WrongSignature at) = omega arith
+sentence-room (WrongVersion at) = omega arith
+sentence-room (WrongSize at) = omega arith
+sentence-room (Repeated at) = omega arith
+sentence-room (UnknownField at) = omega arith
+sentence-room (Absent at) = omega arith
+sentence-room (Unlisted at) = omega arith
+sentence-room (BrokenDictionary at) = omega arith
+sentence-room (TooManyRounds at) = omega arith
 sentence-room HeaderHash = omega arith
 sentence-room HeaderTag = omega arith
 sentence-room BlockTag = omega arith
@@ -58,8 +58,8 @@ sentence-room WrongPadding = omega arith
 sentence-room NoRoom = omega arith
 sentence-room WrongCredential = omega arith
 sentence-room OutOfSequence = omega arith
-sentence-room TooFewRounds = omega arith
-sentence-room FigureOutside = omega arith
+sentence-room (TooFewRounds at) = omega arith
+sentence-room (FigureOutside at) = omega arith
 
 pub sentence-shown : (r : Refusal) → take (held (sentence r) .length) (held (sentence r) .text) ≡ sentence r
 unfolding held

@@ -24,30 +24,30 @@ unfoldable pub sentence : Refusal → List ℕ
 sentence TooLong =
     ascii "An input is longer than this program or terminal takes. Use a smaller vault, password or key "
     ++ ascii "file."
-sentence CutShort =
+sentence (CutShort at) =
     ascii "The file ends too early. Copy the vault again; if it is still too short, take an older copy."
-sentence WrongSignature =
+sentence (WrongSignature at) =
     ascii "This is not a KDBX vault. Check that the right file was named."
-sentence WrongVersion =
+sentence (WrongVersion at) =
     ascii "The vault is not of version 4.0 or 4.1. Save it as KDBX 4 in a desktop password manager."
-sentence WrongSize =
+sentence (WrongSize at) =
     ascii "A part of the file has a size that it cannot have, so the file is damaged. Take another copy of "
     ++ ascii "the vault."
-sentence Repeated =
+sentence (Repeated at) =
     ascii "The header has the same part twice, so the file is damaged. Take another copy of the vault."
-sentence UnknownField =
+sentence (UnknownField at) =
     ascii "The header has a part that is not known. Take another copy, or save the vault as KDBX 4 in a "
     ++ ascii "desktop password manager."
-sentence Absent =
+sentence (Absent at) =
     ascii "A part that is needed is not there. Take another copy of the vault; for an attachment, check its "
     ++ ascii "number."
-sentence Unlisted =
+sentence (Unlisted at) =
     ascii "The vault uses a cipher, a compression or a key derivation that is not supported. In a desktop "
     ++ ascii "password manager choose AES-256 or ChaCha20, AES-KDF or Argon2, no compression, and save it."
-sentence BrokenDictionary =
+sentence (BrokenDictionary at) =
     ascii "The header's settings are damaged or incomplete. Take another copy, or save the vault again in a "
     ++ ascii "desktop password manager."
-sentence TooManyRounds =
+sentence (TooManyRounds at) =
     ascii "The vault asks for more than 4,000,000 rounds. Lower them in a desktop password manager and save "
     ++ ascii "it."
 sentence HeaderHash =
@@ -71,10 +71,10 @@ sentence WrongCredential =
 sentence OutOfSequence =
     ascii "A step came after the end, or a key was asked for too early. Start again; if it happens again, "
     ++ ascii "tell whoever maintains this program."
-sentence TooFewRounds =
+sentence (TooFewRounds at) =
     ascii "The vault asks for fewer than 6,000 rounds. Raise them in a desktop password manager "
     ++ ascii "and save it."
-sentence FigureOutside =
+sentence (FigureOutside at) =
     ascii "The vault's Argon2 settings are outside what this program takes: salt 8 to 64 bytes, 1 to 64 passes, "
     ++ ascii "8 KiB a lane to 64 MiB, 1 to 16 lanes. Change them in a desktop password manager."
 

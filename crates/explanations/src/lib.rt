@@ -32,34 +32,34 @@ pub fn explain(why: Refusal) -> Sentence
         Refusal::TooLong => return held(
             b"An input is longer than this program or terminal takes. Use a smaller vault, password or key file.",
         ),
-        Refusal::CutShort => return held(
+        Refusal::CutShort(_) => return held(
             b"The file ends too early. Copy the vault again; if it is still too short, take an older copy.",
         ),
-        Refusal::WrongSignature => return held(
+        Refusal::WrongSignature(_) => return held(
             b"This is not a KDBX vault. Check that the right file was named.",
         ),
-        Refusal::WrongVersion => return held(
+        Refusal::WrongVersion(_) => return held(
             b"The vault is not of version 4.0 or 4.1. Save it as KDBX 4 in a desktop password manager.",
         ),
-        Refusal::WrongSize => return held(
+        Refusal::WrongSize(_) => return held(
             b"A part of the file has a size that it cannot have, so the file is damaged. Take another copy of the vault.",
         ),
-        Refusal::Repeated => return held(
+        Refusal::Repeated(_) => return held(
             b"The header has the same part twice, so the file is damaged. Take another copy of the vault.",
         ),
-        Refusal::UnknownField => return held(
+        Refusal::UnknownField(_) => return held(
             b"The header has a part that is not known. Take another copy, or save the vault as KDBX 4 in a desktop password manager.",
         ),
-        Refusal::Absent => return held(
+        Refusal::Absent(_) => return held(
             b"A part that is needed is not there. Take another copy of the vault; for an attachment, check its number.",
         ),
-        Refusal::Unlisted => return held(
+        Refusal::Unlisted(_) => return held(
             b"The vault uses a cipher, a compression or a key derivation that is not supported. In a desktop password manager choose AES-256 or ChaCha20, AES-KDF or Argon2, no compression, and save it.",
         ),
-        Refusal::BrokenDictionary => return held(
+        Refusal::BrokenDictionary(_) => return held(
             b"The header's settings are damaged or incomplete. Take another copy, or save the vault again in a desktop password manager.",
         ),
-        Refusal::TooManyRounds => return held(
+        Refusal::TooManyRounds(_) => return held(
             b"The vault asks for more than 4,000,000 rounds. Lower them in a desktop password manager and save it.",
         ),
         Refusal::HeaderHash => return held(
@@ -86,10 +86,10 @@ pub fn explain(why: Refusal) -> Sentence
         Refusal::OutOfSequence => return held(
             b"A step came after the end, or a key was asked for too early. Start again; if it happens again, tell whoever maintains this program.",
         ),
-        Refusal::TooFewRounds => return held(
+        Refusal::TooFewRounds(_) => return held(
             b"The vault asks for fewer than 6,000 rounds. Raise them in a desktop password manager and save it.",
         ),
-        Refusal::FigureOutside => return held(
+        Refusal::FigureOutside(_) => return held(
             b"The vault's Argon2 settings are outside what this program takes: salt 8 to 64 bytes, 1 to 64 passes, 8 KiB a lane to 64 MiB, 1 to 16 lanes. Change them in a desktop password manager.",
         ),
     }

@@ -3,6 +3,8 @@
 --
 --   resultOr      a result, where the operation accepts
 --   figuresOr     figures, where their answer's number is 0
+--   headerPlace, .. outcomePlace    the place of a refusal, 0 where there is none (document 02, Item 8)
+--   verdictOutcome    what a lone dictionary's check answers
 --   headerWith    the figures of a header with those of its KDF
 --   argon2Kind    the kind of Argon2 that a number of C stands for; argon2Outcome: 9 where it stands for none
 --   chosen        the KDF that a number of C and figures stand for; answerBy, bytesBy: a writing with it
@@ -18,12 +20,12 @@ use mathlib.Core.List.{List, [], _∷_}
 use Prim.Native.Nat.{ℕ}
 use lib.Dec.{eqb, leb}
 use Rattle.refusals.specs.declared.Refusal.{Refusal}
-use Rattle.refusals.specs.declared.Refusal.the-variants.{WrongVersion, Unlisted}
+use Rattle.refusals.specs.declared.Refusal.the-variants.{WrongVersion, Repeated, Unlisted, BrokenDictionary}
 use Rattle.refusals.specs.declared.Outcome.{Outcome}
 use Rattle.refusals.specs.declared.Outcome.the-variants.{Accepted, Refused}
 use Rattle.refusals.specs.declared.Written.{Written}
 use Rattle.refusals.specs.declared.Written.the-variants as written
-use Rattle.refusals.specs.Numbers.{ofWritten}
+use Rattle.refusals.specs.Numbers.{placeOf, ofWritten}
 use Rattle.sha256.specs.State as sha256State
 use Rattle.sha256.specs.declared.Fed.{Fed as Fed256}
 use Rattle.sha512.specs.State as sha512State
@@ -40,11 +42,17 @@ use Rattle.kdf_dictionary.specs.declared.writer.Figures.{Figures}
 use Rattle.kdf_dictionary.specs.declared.writer.Figures.the-variants as figures
 use Rattle.outer_header.specs.declared.Header.{Header}
 use Rattle.outer_header.specs.declared.Reading.{Reading}
+use Rattle.outer_header.specs.declared.Reading.the-variants as reading
+use Rattle.dictionary.specs.declared.Verdict.{Verdict}
+use Rattle.dictionary.specs.declared.Verdict.the-variants as verdictIs
 use Rattle.outer_header.specs.Answers as headerAnswers
 use Rattle.dictionary.specs.declared.Found.{Found}
+use Rattle.dictionary.specs.declared.Found.the-variants as found
 use Rattle.dictionary.specs.Answers as dictionaryAnswers
 use Rattle.inner_header.specs.declared.Read.{Read}
+use Rattle.inner_header.specs.declared.Read.the-variants as inner
 use Rattle.inner_header.specs.declared.Attachment.{Attachment}
+use Rattle.inner_header.specs.declared.Attachment.the-variants as attached
 use Rattle.inner_header.specs.Answers as innerAnswers
 use Rattle.opening.specs.declared.Opener.{Opener}
 use Rattle.opening.specs.Runs.{Reply}
@@ -100,11 +108,43 @@ argon2Inputs kdf composite salt passes memory lanes =
 -- 9 of another number, else the run's
 abbrev pub argon2Outcome : ℕ → Inputs → ℕ → ℕ → Outcome
 argon2Outcome kdf i memory words =
-    cond (eqb kdf 1 || eqb kdf 2) (argon2.outcome i memory words) (Refused Unlisted)
+    cond (eqb kdf 1 || eqb kdf 2) (argon2.outcome i memory words) (Refused (Unlisted 0))
 
 -- an answer's values where its number is 0, and the figures that stood there where it is a refusal's
 abbrev pub figuresOr : ℕ → List ℕ → List ℕ → List ℕ
 figuresOr number values had = cond (eqb number 0) values had
+
+-- document 02, Item 8: the place of a refusal, 0 where an answer is none
+abbrev pub headerPlace : Reading → ℕ
+headerPlace (reading.Header h) = 0
+headerPlace (reading.Refused r) = placeOf r
+
+abbrev pub foundPlace : Found → ℕ
+foundPlace (found.At kind start length) = 0
+foundPlace found.Absent = 0
+foundPlace (found.Refused r) = placeOf r
+
+abbrev pub innerPlace : Read → ℕ
+innerPlace (inner.Header h) = 0
+innerPlace (inner.Refused r) = placeOf r
+
+abbrev pub attachmentPlace : Attachment → ℕ
+attachmentPlace (attached.At flags p) = 0
+attachmentPlace (attached.Refused r) = placeOf r
+
+abbrev pub writtenPlace : Written → ℕ
+writtenPlace (written.Wrote n) = 0
+writtenPlace (written.Refused r) = placeOf r
+
+abbrev pub outcomePlace : Outcome → ℕ
+outcomePlace Accepted = 0
+outcomePlace (Refused r) = placeOf r
+
+-- a lone dictionary: 10 or 6, with the place counted from its front
+abbrev pub verdictOutcome : Verdict → Outcome
+verdictOutcome verdictIs.Sound = Accepted
+verdictOutcome (verdictIs.Broken at) = Refused (BrokenDictionary at)
+verdictOutcome (verdictIs.Repeated at) = Refused (Repeated at)
 
 abbrev pub headerOr : Reading → List ℕ → List ℕ
 headerOr a had = figuresOr (headerAnswers.number a) (headerAnswers.values a) had
@@ -172,7 +212,7 @@ chosen kdf rounds memory lanes =
 
 -- another number: 9, in the cipher's place, behind 4
 abbrev pub unlistedKdf : ℕ → Refusal
-unlistedKdf minor = cond (leb minor 1) Unlisted WrongVersion
+unlistedKdf minor = cond (leb minor 1) (Unlisted 0) (WrongVersion 0)
 
 -- the answer of a writing with the KDF, and what it writes
 abbrev pub answerBy : ℕ → Chosen → (Figures → Written) → Written

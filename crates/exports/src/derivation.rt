@@ -208,7 +208,7 @@ pub extern "C" fn kdbx4_argon2(
             out,
         );
     }
-    Refusal::Unlisted.number()
+    Refusal::Unlisted(0).number()
 }
 
 // The key of the payload's cipher, of a master seed and T.

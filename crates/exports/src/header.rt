@@ -65,16 +65,21 @@ fn figures_of(h: Header) -> [u64; 17]
 
 // What the header of a file says.
 #[no_mangle]
-pub extern "C" fn kdbx4_header(file: &[u8], figures: &mut [u64; 17]) -> u8
+pub extern "C" fn kdbx4_header(file: &[u8], figures: &mut [u64; 17], place: &mut usize) -> u8
     ensures { λ r. ⌜ r ≡ answers.number (kdbx4.header (now (file .entry))) ⌝ }
+    ensures { λ _. ⌜ now (place .exit) ≡ lent.headerPlace (kdbx4.header (now (file .entry))) ⌝ }
     ensures { λ _. ⌜ now (figures .exit) ≡ lent.headerOr (kdbx4.header (now (file .entry))) (now (figures .entry)) ⌝ }
 {
     match outer_header::read(file) {
         Reading::Header(h) => {
             *figures = figures_of(h);
+            *place = 0;
             return 0;
         }
-        Reading::Refused(r) => return r.number(),
+        Reading::Refused(r) => {
+            *place = r.place();
+            return r.number();
+        }
     }
 }
 

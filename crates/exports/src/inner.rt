@@ -15,8 +15,9 @@ use refusals::Written;
 
 // What the inner header of a payload says.
 #[no_mangle]
-pub extern "C" fn kdbx4_inner(payload: &[u8], figures: &mut [u64; 5]) -> u8
+pub extern "C" fn kdbx4_inner(payload: &[u8], figures: &mut [u64; 5], place: &mut usize) -> u8
     ensures { λ r. ⌜ r ≡ answers.number (kdbx4.inner (now (payload .entry))) ⌝ }
+    ensures { λ _. ⌜ now (place .exit) ≡ lent.innerPlace (kdbx4.inner (now (payload .entry))) ⌝ }
     ensures { λ _. ⌜ now (figures .exit) ≡ lent.innerOr (kdbx4.inner (now (payload .entry))) (now (figures .entry)) ⌝ }
 {
     match inner_header::read_header(payload) {
@@ -28,24 +29,38 @@ pub extern "C" fn kdbx4_inner(payload: &[u8], figures: &mut [u64; 5]) -> u8
                 h.attachments as u64,
                 h.document as u64,
             ];
+            *place = 0;
             return 0;
         }
-        Read::Refused(r) => return r.number(),
+        Read::Refused(r) => {
+            *place = r.place();
+            return r.number();
+        }
     }
 }
 
 // The flags of an attachment, counted from 0, and the place of its content.
 #[no_mangle]
-pub extern "C" fn kdbx4_attachment(payload: &[u8], index: usize, figures: &mut [u64; 3]) -> u8
+pub extern "C" fn kdbx4_attachment(
+    payload: &[u8],
+    index: usize,
+    figures: &mut [u64; 3],
+    place: &mut usize,
+) -> u8
     ensures { λ r. ⌜ r ≡ answers.attachmentNumber (kdbx4.attachment (now (payload .entry)) index) ⌝ }
+    ensures { λ _. ⌜ now (place .exit) ≡ lent.attachmentPlace (kdbx4.attachment (now (payload .entry)) index) ⌝ }
     ensures { λ _. ⌜ now (figures .exit) ≡ lent.attachmentOr (kdbx4.attachment (now (payload .entry)) index) (now (figures .entry)) ⌝ }
 {
     match inner_header::find_attachment(payload, index) {
         Attachment::At(flags, p) => {
             *figures = [flags as u64, p.start as u64, p.length as u64];
+            *place = 0;
             return 0;
         }
-        Attachment::Refused(r) => return r.number(),
+        Attachment::Refused(r) => {
+            *place = r.place();
+            return r.number();
+        }
     }
 }
 

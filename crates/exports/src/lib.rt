@@ -10,9 +10,10 @@
 //   inner           the inner header, its attachments, and its writing
 //   streams         the inner stream: a stretch from the inner key, and a state that carries over
 // In C a slice is a pointer and a length, and an array or a number that is lent a pointer. A function that can refuse
-// answers document 01's number: 0 is success, and a refusal changes no lent byte. Figures are lent as an array of
-// numbers. A state is lent as an array of bytes, which crate states reads and writes. The contracts cite the
-// operations' own definitions; specs/Lent says what is left in lent memory.
+// answers document 01's number: 0 is success, and a refusal changes no lent byte but a reader's place (document 02, Item
+// 8), which is 0 on success. Figures are lent as an array of numbers. A state is lent as an array of bytes, which crate
+// states reads and writes. The contracts cite the operations' own definitions; specs/Lent says what is left in lent
+// memory.
 mod derivation;
 mod dictionaries;
 mod encryption;

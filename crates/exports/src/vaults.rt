@@ -12,6 +12,7 @@ ghost use Rattle.states.specs.OpenerState as openerState;
 ghost use Rattle.writer.specs.Written as kdbx4;
 ghost use Rattle.exports.specs.Lent as lent;
 use kdf_dictionary::writer::Figures;
+use refusals::Outcome;
 use refusals::Refusal;
 use refusals::Written;
 use states::opener_state;
@@ -22,29 +23,57 @@ enum Chosen {
     Unlisted,
 }
 
-// Opens a vault whole under the transformed key T: the payload over the front of `out`, and its length in `count`.
+// Opens a vault whole under the transformed key T: the payload over the front of `out`, and its length in `count`;
+// the place of a refusal in `place`.
 #[no_mangle]
-pub extern "C" fn kdbx4_open(file: &[u8], t: &[u8; 32], out: &mut [u8], count: &mut usize) -> u8
+pub extern "C" fn kdbx4_open(
+    file: &[u8],
+    t: &[u8; 32],
+    out: &mut [u8],
+    count: &mut usize,
+    place: &mut usize,
+) -> u8
     ensures { λ r. ⌜ r ≡ numbers.ofWritten (whole.writtenOf (vault.openedIn (now (t .entry)) (now (file .entry)) (length (now (out .entry))))) ⌝ }
     ensures { λ _. ⌜ now (out .exit) ≡ over (whole.shownOf (vault.openedIn (now (t .entry)) (now (file .entry)) (length (now (out .entry))))) (now (out .entry)) ⌝ }
     ensures { λ _. ⌜ now (count .exit) ≡ lent.countOr (whole.writtenOf (vault.openedIn (now (t .entry)) (now (file .entry)) (length (now (out .entry))))) (now (count .entry)) ⌝ }
+    ensures { λ _. ⌜ now (place .exit) ≡ lent.writtenPlace (whole.writtenOf (vault.openedIn (now (t .entry)) (now (file .entry)) (length (now (out .entry))))) ⌝ }
 {
     let key = *t;
     let answer = vault::open(file, key, out);
     match answer {
         Written::Wrote(n) => {
             *count = n;
+            *place = 0;
             return 0;
         }
-        Written::Refused(r) => return r.number(),
+        Written::Refused(r) => {
+            *place = r.place();
+            return r.number();
+        }
+    }
+}
+
+// The place of a refusal.
+pub(crate) fn place_of(o: Outcome) -> usize
+    ensures { λ r. ⌜ r ≡ lent.outcomePlace o ⌝ }
+{
+    match o {
+        Outcome::Accepted => 0,
+        Outcome::Refused(r) => r.place(),
     }
 }
 
 // Starts a block-by-block opening: the checks up to the header's tag, and the state. A refused start gives a closed
 // state.
 #[no_mangle]
-pub extern "C" fn kdbx4_start(file: &[u8], t: &[u8; 32], state: &mut [u8; 410]) -> u8
+pub extern "C" fn kdbx4_start(
+    file: &[u8],
+    t: &[u8; 32],
+    state: &mut [u8; 410],
+    place: &mut usize,
+) -> u8
     ensures { λ r. ⌜ r ≡ numbers.ofOutcome (vault.outcomeOf (vault.start (now (t .entry)) (now (file .entry)))) ⌝ }
+    ensures { λ _. ⌜ now (place .exit) ≡ lent.outcomePlace (vault.outcomeOf (vault.start (now (t .entry)) (now (file .entry)))) ⌝ }
     ensures { λ _. ⌜ now (state .exit) ≡ openerState.packed (vault.stateOf (vault.start (now (t .entry)) (now (file .entry)))) ⌝ }
 {
     let key = *t;
@@ -52,6 +81,7 @@ pub extern "C" fn kdbx4_start(file: &[u8], t: &[u8; 32], state: &mut [u8; 410]) 
     let outcome = s.outcome;
     let next = s.next;
     *state = opener_state::pack(next);
+    *place = place_of(outcome);
     outcome.number()
 }
 
@@ -123,9 +153,9 @@ fn unlisted(minor: u16) -> u8
     ensures { λ r. ⌜ r ≡ numbers.ofRefusal (lent.unlistedKdf minor) ⌝ }
 {
     if 1 < minor {
-        return Refusal::WrongVersion.number();
+        return Refusal::WrongVersion(0).number();
     }
-    Refusal::Unlisted.number()
+    Refusal::Unlisted(0).number()
 }
 
 // Writes a vault with the figures of its KDF.

@@ -51,7 +51,7 @@ fn value_at(s: &[u8], at: usize, rule: SizeRule) -> Field
     ensures { λ r. ⌜ r ≡ fields.valueAt rule (now (s .entry)) at (int32 (le 4 (now (s .entry)) (at + 1))) ⌝ }
 {
     match words::le::size_at(s, at + 1) {
-        Size::Negative => return Field::Refused(Refusal::WrongSize),
+        Size::Negative => return Field::Refused(Refusal::WrongSize(at)),
         Size::Of(n) => {
             if fits(rule, n) {
                 let length = n as usize;
@@ -59,9 +59,9 @@ fn value_at(s: &[u8], at: usize, rule: SizeRule) -> Field
                     let start = at + 5;
                     return Field::At(s[at], Place { start, length });
                 }
-                return Field::Refused(Refusal::CutShort);
+                return Field::Refused(Refusal::CutShort(s.len()));
             }
-            return Field::Refused(Refusal::WrongSize);
+            return Field::Refused(Refusal::WrongSize(at));
         }
     }
 }
@@ -72,18 +72,28 @@ pub fn field_at(s: &[u8], at: usize, listed: bool, repeated: bool, rule: SizeRul
     ensures { λ r. ⌜ r ≡ fields.fieldAt listed repeated rule (now (s .entry)) at ⌝ }
 {
     if s.len() < 5 {
-        return Field::Refused(Refusal::CutShort);
+        return Field::Refused(Refusal::CutShort(s.len()));
     }
     if at <= s.len() - 5 {
         if listed {
             if repeated {
-                return Field::Refused(Refusal::Repeated);
+                return Field::Refused(Refusal::Repeated(at));
             }
             return value_at(s, at, rule);
         }
-        return Field::Refused(Refusal::UnknownField);
+        return Field::Refused(Refusal::UnknownField(at));
     }
-    Field::Refused(Refusal::CutShort)
+    Field::Refused(Refusal::CutShort(s.len()))
+}
+
+// Where the field of a value begins: five bytes before it.
+pub fn begin(p: Place) -> usize
+    ensures { λ r. ⌜ r ≡ fields.begin p ⌝ }
+{
+    if p.start < 5 {
+        return 0;
+    }
+    p.start - 5
 }
 
 // Writes a field into `out` from a place on, as far as there is room.

@@ -34,12 +34,16 @@ use Rattle.ciphers.proofs.Laws.{cipherOf-identifier, nonceLength-le}
 use Rattle.kdf_dictionary.specs.Kdf.{kdfBytes, kdfLength, IsWritable, writtenKdf}
 use Rattle.kdf_dictionary.specs.declared.writer.Figures.{Figures}
 use Rattle.kdf_dictionary.specs.declared.writer.Figures.the-variants as figures
+use Rattle.dictionary.specs.Dictionary.{verdict}
+use Rattle.dictionary.specs.declared.Verdict.{Verdict}
+use Rattle.dictionary.specs.declared.Verdict.the-variants as verdictIs
 use Rattle.kdf_dictionary.specs.KdfDictionary.{kdfOf}
 use Rattle.kdf_dictionary.specs.declared.Reading.the-variants as kdf
 use Rattle.kdf_dictionary.proofs.Laws.ReadBack.{kdfOf-kdfBytes, kdfOf-few, saltAt, kdfBytes-salt-is}
 use Rattle.outer_header.specs.declared.walk.Fields.{Fields}
 use Rattle.outer_header.specs.declared.walk.Walked.the-variants as walked
 use Rattle.outer_header.specs.declared.Reading.the-variants as read
+use Rattle.outer_header.specs.Kdbx4Header as header
 use Rattle.outer_header.specs.Kdbx4Header.{
   listed,
   sizeRule,
@@ -53,8 +57,8 @@ use Rattle.outer_header.specs.Kdbx4Header.{
   header,
 }
 use Rattle.outer_header.proofs.Laws.Accepted.{accepts-header, accepts-judged, header-judged, refuses-judged}
-use Rattle.header_writer.specs.Written.{noCompression, headerBytes, headerLength, customVerdict, checked}
-use Rattle.header_writer.specs.ReadsBack.{kdfPlace, customPlace, saltPlace, writtenHeader, ReadsBack}
+use Rattle.header_writer.specs.Written.{noCompression, headerBytes, headerLength, customIn, customVerdict, checked}
+use Rattle.header_writer.specs.ReadsBack.{kdfPlace, roundsItem, customPlace, saltPlace, writtenHeader, ReadsBack}
 use Rattle.header_writer.specs.declared.Checked.the-variants.{As}
 use Rattle.header_writer.proofs.Laws.Layout.{length-headerBytes}
 use Rattle.header_writer.proofs.Laws.CheckedLaws.{checked-as}
@@ -189,14 +193,20 @@ module _ (minor : ℕ) (c : Cipher) (seed nonce : List ℕ) (fig : Figures) (sal
       (λ t. rw t (no-bytes custom (eqb-true (length custom) 0 t)))
       (λ t. rw t (bytesAt-lies s (89 + nonceLength c + kl) 12 custom _ (w .custom-lies t)))
 
+  custom-sound : (v : Verdict) → customIn v ≡ outcome.Accepted → v ≡ verdictIs.Sound
+  unfolding customIn
+  custom-sound verdictIs.Sound e = refl
+  custom-sound (verdictIs.Broken at) e = let z : _≡_ {A = ℕ} 0 1 = cc in absurd (omega arith)
+  custom-sound (verdictIs.Repeated at) e = let z : _≡_ {A = ℕ} 0 1 = cc in absurd (omega arith)
+
   custom-judged : customVerdict custom ≡ outcome.Accepted
       → customOf s (customPlace c fig (length salt) (length custom)) ≡ outcome.Accepted
-  unfolding customVerdict customOf
+  unfolding customVerdict customOf header.customIn
   custom-judged =
       by-bool (eqb (length custom) 0)
       (λ t. rw t (λ v. refl))
       (λ t. let b = bytesAt-lies s (89 + nonceLength c + kl) 12 custom _ (w .custom-lies t) in
-      rw (t, ne-eqb (94 + nonceLength c + kl) 0 (λ e. omega arith), b) (λ v. v))
+      rw (t, ne-eqb (94 + nonceLength c + kl) 0 (λ e. omega arith), b) (λ v. rw (custom-sound (verdict custom) v)))
 
   kdf-bytes : bytesAt s (kdfPlace c fig (length salt)) ≡ kdfBytes fig salt
   kdf-bytes = bytesAt-lies s (84 + nonceLength c) 11 (kdfBytes fig salt) _ (w .kdf-lies)
@@ -292,21 +302,22 @@ header-read-back minor id seed nonce fig salt custom c rest e f =
       length-told = refl;
     }
 
--- too few rounds: 20, whatever the custom dictionary is and whatever stands behind the header
+-- too few rounds: 20 at the item `R`, whatever the custom dictionary is and whatever stands behind the header
 pub header-few : (minor : ℕ) (c : Cipher) (seed nonce : List ℕ) (rounds : ℕ) (salt custom rest : List ℕ) → minor ≤ 1
     → length seed ≡ 32
     → length nonce ≡ nonceLength c
     → length salt ≡ 32
     → rounds < roundsLeast
     → length (headerBytes minor c seed nonce (figures.AesKdf rounds) salt custom ++ rest) ≤ fileLimit
-    → header (headerBytes minor c seed nonce (figures.AesKdf rounds) salt custom ++ rest) ≡ read.Refused TooFewRounds
+    → header (headerBytes minor c seed nonce (figures.AesKdf rounds) salt custom ++ rest)
+    ≡ read.Refused (TooFewRounds (roundsItem c))
 unfolding kdfLength
 header-few minor c seed nonce rounds salt custom rest m seed-long nonce-long salt-long few f =
     let fig = figures.AesKdf rounds in
     let s = headerBytes minor c seed nonce fig salt custom ++ rest in
     let w = header-fields minor c seed nonce fig salt custom rest s refl seed-long nonce-long m in
     let small : kdfLength fig (length salt) ≤ 171 = omega (arith, salt-long) in
-    header-refused minor c seed nonce fig salt custom s w small TooFewRounds
+    header-refused minor c seed nonce fig salt custom s w small (TooFewRounds (roundsItem c))
     (kdfOf-few rounds salt s (kdfPlace c fig (length salt)) salt-long few
     (kdf-bytes minor c seed nonce fig salt custom s w small))
     m f

@@ -6,6 +6,7 @@
 --   listed-lines                 the 4.1 ChaCha20 header with R = 6,000, seeds of bytes 11 and 33, nonce of bytes 22
 --   checked-listed, checked-custom    its figures may be written, also with an empty custom dictionary
 --   checked-most, checked-more   "Rounds 4,000,000 pass, 4,000,001 give 11"
+--   checked-fewer                document 02, Item 3: 5,999 give 20
 --   checked-salt, checked-salt-short    document 02, Item 6: a salt of 8 bytes passes, of 7 gives 22
 -- Assumes nothing.
 use mathlib.Core.Path.{_≡_, refl, _∙_}
@@ -14,7 +15,7 @@ use Prim.Native.Nat.{ℕ}
 use lib.ListN.{length, replicate}
 use Rattle.words.specs.Endian.{leBytes}
 use Rattle.slices.specs.Same.{same}
-use Rattle.refusals.specs.declared.Refusal.the-variants.{TooManyRounds, FigureOutside}
+use Rattle.refusals.specs.declared.Refusal.the-variants.{TooManyRounds, TooFewRounds, FigureOutside}
 use Rattle.refusals.specs.Limits.{roundsLeast, roundsLimit, argon2Fits}
 use Rattle.fields.specs.Fields.{fieldBytes}
 use Rattle.ciphers.specs.Ciphers.{identifier, cipherOf, nonceLength}
@@ -28,6 +29,7 @@ use Rattle.header_writer.specs.Written.{
   customField,
   headerBytes,
   headerLength,
+  customIn,
   customVerdict,
   checkedCustom,
   saltSized,
@@ -90,20 +92,24 @@ listedChecked rounds custom =
     checked 1 (identifier ChaCha20) (replicate 32 0x11) (replicate 12 0x22) (figures.AesKdf rounds) (replicate 32 0x33) custom
 
 pub checked-listed : listedChecked 6_000 [] ≡ As ChaCha20
-unfolding checked checkedCipher checkedSizes saltSized checkedFigures checkedCustom customVerdict cipherOf identifier nonceLength same roundsLimit roundsLeast
+unfolding checked checkedCipher checkedSizes saltSized checkedFigures checkedCustom customIn customVerdict cipherOf identifier nonceLength same roundsLimit roundsLeast
 checked-listed = refl
 
 pub checked-custom : listedChecked 6_000 (0x00 ∷ 0x01 ∷ 0x00 ∷ []) ≡ As ChaCha20
-unfolding checked checkedCipher checkedSizes saltSized checkedFigures checkedCustom customVerdict cipherOf identifier nonceLength same roundsLimit roundsLeast verdict walk walkIn entryAt
+unfolding checked checkedCipher checkedSizes saltSized checkedFigures checkedCustom customIn customVerdict cipherOf identifier nonceLength same roundsLimit roundsLeast verdict walk walkIn entryAt
 checked-custom = refl
 
 pub checked-most : listedChecked 4_000_000 [] ≡ As ChaCha20
-unfolding checked checkedCipher checkedSizes saltSized checkedFigures checkedCustom customVerdict cipherOf identifier nonceLength same roundsLimit roundsLeast
+unfolding checked checkedCipher checkedSizes saltSized checkedFigures checkedCustom customIn customVerdict cipherOf identifier nonceLength same roundsLimit roundsLeast
 checked-most = refl
 
-pub checked-more : listedChecked 4_000_001 [] ≡ Refused TooManyRounds
-unfolding checked checkedCipher checkedSizes saltSized checkedFigures checkedCustom customVerdict cipherOf identifier nonceLength same roundsLimit roundsLeast
+pub checked-more : listedChecked 4_000_001 [] ≡ Refused (TooManyRounds 0)
+unfolding checked checkedCipher checkedSizes saltSized checkedFigures checkedCustom customIn customVerdict cipherOf identifier nonceLength same roundsLimit roundsLeast
 checked-more = refl
+
+pub checked-fewer : listedChecked 5_999 [] ≡ Refused (TooFewRounds 0)
+unfolding checked checkedCipher checkedSizes saltSized checkedFigures checkedCustom customIn customVerdict cipherOf identifier nonceLength same roundsLimit roundsLeast
+checked-fewer = refl
 
 -- what the writer says to Argon2 with a salt
 abbrev saltedChecked : List ℕ → Checked
@@ -111,9 +117,9 @@ saltedChecked salt =
     checked 1 (identifier ChaCha20) (replicate 32 0x11) (replicate 12 0x22) (figures.Argon2d 1 8_192 1) salt []
 
 pub checked-salt : saltedChecked (replicate 8 0x33) ≡ As ChaCha20
-unfolding checked checkedCipher checkedSizes saltSized checkedFigures checkedCustom customVerdict cipherOf identifier nonceLength same argon2Fits
+unfolding checked checkedCipher checkedSizes saltSized checkedFigures checkedCustom customIn customVerdict cipherOf identifier nonceLength same argon2Fits
 checked-salt = refl
 
-pub checked-salt-short : saltedChecked (replicate 7 0x33) ≡ Refused FigureOutside
-unfolding checked checkedCipher checkedSizes saltSized checkedFigures checkedCustom customVerdict cipherOf identifier nonceLength same argon2Fits
+pub checked-salt-short : saltedChecked (replicate 7 0x33) ≡ Refused (FigureOutside 0)
+unfolding checked checkedCipher checkedSizes saltSized checkedFigures checkedCustom customIn customVerdict cipherOf identifier nonceLength same argon2Fits
 checked-salt-short = refl

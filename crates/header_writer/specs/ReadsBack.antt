@@ -27,6 +27,10 @@ use Rattle.header_writer.specs.Written.{headerBytes, headerLength}
 abbrev pub kdfPlace : Cipher → Figures → ℕ → Place
 kdfPlace c fig m = record { start = 89 + nonceLength c; length = kdfLength fig m }
 
+-- where the item `R` begins in AES-KDF's, behind the version and `$UUID`'s item
+abbrev pub roundsItem : Cipher → ℕ
+roundsItem c = 89 + nonceLength c + 32
+
 -- where a custom dictionary of n bytes stands behind it
 abbrev pub customPlace : Cipher → Figures → ℕ → ℕ → Place
 customPlace c fig m n =

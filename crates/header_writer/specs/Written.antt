@@ -7,6 +7,7 @@
 --    major in the high word"                                    versionBytes
 --   "custom dictionary (zero length: field absent)"             customField
 --   "Fields are 2, 3, 4, 7, 11, 12, 0"                          headerBytes
+--   document 02, Item 8: "from writers .. it is zero"           every refusal's place
 -- Not here: fields (crate fields), the KDF dictionary (crate dictionary, Kdf), reading (crate outer_header).
 -- Assumes nothing.
 use mathlib.Core.Bool.{Bool, true, cond}
@@ -15,7 +16,7 @@ use Prim.Native.Nat.{ℕ, _+_}
 use lib.Dec.{eqb, leb}
 use lib.ListN.{length}
 use Rattle.words.specs.Endian.{leBytes}
-use Rattle.refusals.specs.declared.Refusal.the-variants.{WrongVersion, WrongSize, Unlisted, TooManyRounds, TooFewRounds, FigureOutside}
+use Rattle.refusals.specs.declared.Refusal.the-variants.{WrongVersion, WrongSize, Repeated, Unlisted, BrokenDictionary, TooManyRounds, TooFewRounds, FigureOutside}
 use Rattle.refusals.specs.declared.Outcome.{Outcome}
 use Rattle.refusals.specs.declared.Outcome.the-variants as outcome
 use Rattle.refusals.specs.Limits.{roundsLimit, roundsLeast, argon2Fits}
@@ -25,6 +26,8 @@ use Rattle.ciphers.specs.declared.Cipher.{Cipher}
 use Rattle.ciphers.specs.declared.Identified.{Identified}
 use Rattle.ciphers.specs.declared.Identified.the-variants as identified
 use Rattle.dictionary.specs.Dictionary.{verdict}
+use Rattle.dictionary.specs.declared.Verdict.{Verdict}
+use Rattle.dictionary.specs.declared.Verdict.the-variants as verdictIs
 use Rattle.kdf_dictionary.specs.Kdf.{kdfBytes, kdfLength}
 use Rattle.kdf_dictionary.specs.declared.writer.Figures.{Figures}
 use Rattle.kdf_dictionary.specs.declared.writer.Figures.the-variants as figures
@@ -65,8 +68,13 @@ unfoldable pub headerLength : Cipher → Figures → ℕ → ℕ → ℕ
 headerLength c fig m n = 98 + nonceLength c + kdfLength fig m + cond (eqb n 0) 0 (5 + n)
 
 -- 10 or 6, where there is a custom dictionary
+unfoldable pub customIn : Verdict → Outcome
+customIn verdictIs.Sound = outcome.Accepted
+customIn (verdictIs.Broken at) = outcome.Refused (BrokenDictionary 0)
+customIn (verdictIs.Repeated at) = outcome.Refused (Repeated 0)
+
 unfoldable pub customVerdict : List ℕ → Outcome
-customVerdict custom = cond (eqb (length custom) 0) outcome.Accepted (verdict custom)
+customVerdict custom = cond (eqb (length custom) 0) outcome.Accepted (customIn (verdict custom))
 
 unfoldable pub checkedCustom : Cipher → Outcome → Checked
 checkedCustom c outcome.Accepted = As c
@@ -82,29 +90,29 @@ saltSized (figures.Argon2id passes memory lanes) n = true
 unfoldable pub checkedFigures : Cipher → Figures → List ℕ → List ℕ → Checked
 checkedFigures c (figures.AesKdf rounds) salt custom =
     cond (leb rounds roundsLimit)
-    (cond (leb roundsLeast rounds) (checkedCustom c (customVerdict custom)) (Refused TooFewRounds))
-    (Refused TooManyRounds)
+    (cond (leb roundsLeast rounds) (checkedCustom c (customVerdict custom)) (Refused (TooFewRounds 0)))
+    (Refused (TooManyRounds 0))
 checkedFigures c (figures.Argon2d passes memory lanes) salt custom =
     cond (argon2Fits (length salt) passes memory lanes) (checkedCustom c (customVerdict custom))
-    (Refused FigureOutside)
+    (Refused (FigureOutside 0))
 checkedFigures c (figures.Argon2id passes memory lanes) salt custom =
     cond (argon2Fits (length salt) passes memory lanes) (checkedCustom c (customVerdict custom))
-    (Refused FigureOutside)
+    (Refused (FigureOutside 0))
 
 -- 5 (seeds, nonce), then the figures
 unfoldable pub checkedSizes : Cipher → List ℕ → List ℕ → Figures → List ℕ → List ℕ → Checked
 checkedSizes c seed nonce fig salt custom =
     cond (eqb (length seed) 32)
     (cond (eqb (length nonce) (nonceLength c))
-    (cond (saltSized fig (length salt)) (checkedFigures c fig salt custom) (Refused WrongSize))
-    (Refused WrongSize))
-    (Refused WrongSize)
+    (cond (saltSized fig (length salt)) (checkedFigures c fig salt custom) (Refused (WrongSize 0)))
+    (Refused (WrongSize 0)))
+    (Refused (WrongSize 0))
 
 unfoldable pub checkedCipher : Identified → List ℕ → List ℕ → Figures → List ℕ → List ℕ → Checked
-checkedCipher identified.Unlisted seed nonce fig salt custom = Refused Unlisted
+checkedCipher identified.Unlisted seed nonce fig salt custom = Refused (Unlisted 0)
 checkedCipher (identified.As c) seed nonce fig salt custom = checkedSizes c seed nonce fig salt custom
 
 -- the writer's checks of a header's figures: minor version, cipher's identifier, and the rest
 unfoldable pub checked : ℕ → List ℕ → List ℕ → List ℕ → Figures → List ℕ → List ℕ → Checked
 checked minor id seed nonce fig salt custom =
-    cond (leb minor 1) (checkedCipher (cipherOf id) seed nonce fig salt custom) (Refused WrongVersion)
+    cond (leb minor 1) (checkedCipher (cipherOf id) seed nonce fig salt custom) (Refused (WrongVersion 0))

@@ -12,8 +12,8 @@ ghost use Rattle.slices.specs.Over.{laid, putAt};
 ghost use Rattle.header_writer.specs.Written as written;
 use ciphers::Cipher;
 use ciphers::Identified;
+use dictionary::Verdict;
 use kdf_dictionary::writer::Figures;
-use refusals::Outcome;
 use refusals::Refusal;
 
 // The cipher of figures that may be written, or why they may not.
@@ -30,8 +30,9 @@ fn check_custom(c: Cipher, custom: &[u8]) -> Checked
         return Checked::As(c);
     }
     match dictionary::check(custom) {
-        Outcome::Accepted => return Checked::As(c),
-        Outcome::Refused(r) => return Checked::Refused(r),
+        Verdict::Sound => return Checked::As(c),
+        Verdict::Broken(_) => return Checked::Refused(Refusal::BrokenDictionary(0)),
+        Verdict::Repeated(_) => return Checked::Refused(Refusal::Repeated(0)),
     }
 }
 
@@ -64,9 +65,9 @@ fn check_figures(c: Cipher, figures: Figures, salt: &[u8], custom: &[u8]) -> Che
                 if refusals::limits::rounds_suffice(rounds) {
                     return check_custom(c, custom);
                 }
-                return Checked::Refused(Refusal::TooFewRounds);
+                return Checked::Refused(Refusal::TooFewRounds(0));
             }
-            return Checked::Refused(Refusal::TooManyRounds);
+            return Checked::Refused(Refusal::TooManyRounds(0));
         }
         Figures::Argon2d {
             passes,
@@ -76,7 +77,7 @@ fn check_figures(c: Cipher, figures: Figures, salt: &[u8], custom: &[u8]) -> Che
             if refusals::limits::argon2_figures_fit(salt.len(), passes, memory, lanes) {
                 return check_custom(c, custom);
             }
-            return Checked::Refused(Refusal::FigureOutside);
+            return Checked::Refused(Refusal::FigureOutside(0));
         }
         Figures::Argon2id {
             passes,
@@ -86,7 +87,7 @@ fn check_figures(c: Cipher, figures: Figures, salt: &[u8], custom: &[u8]) -> Che
             if refusals::limits::argon2_figures_fit(salt.len(), passes, memory, lanes) {
                 return check_custom(c, custom);
             }
-            return Checked::Refused(Refusal::FigureOutside);
+            return Checked::Refused(Refusal::FigureOutside(0));
         }
     }
 }
@@ -103,15 +104,15 @@ fn check_sizes(
     ensures { λ r. ⌜ r ≡ written.checkedSizes c (now (seed .entry)) (now (nonce .entry)) figures (now (salt .entry)) (now (custom .entry)) ⌝ }
 {
     if seed.len() != 32 {
-        return Checked::Refused(Refusal::WrongSize);
+        return Checked::Refused(Refusal::WrongSize(0));
     }
     if nonce.len() != c.nonce_len() {
-        return Checked::Refused(Refusal::WrongSize);
+        return Checked::Refused(Refusal::WrongSize(0));
     }
     if is_sized(figures, salt.len()) {
         return check_figures(c, figures, salt, custom);
     }
-    Checked::Refused(Refusal::WrongSize)
+    Checked::Refused(Refusal::WrongSize(0))
 }
 
 // Whether a header with these figures may be written.
@@ -127,10 +128,10 @@ pub fn check(
     ensures { λ r. ⌜ r ≡ written.checked minor (now (cipher .entry)) (now (seed .entry)) (now (nonce .entry)) figures (now (salt .entry)) (now (custom .entry)) ⌝ }
 {
     if 1 < minor {
-        return Checked::Refused(Refusal::WrongVersion);
+        return Checked::Refused(Refusal::WrongVersion(0));
     }
     match ciphers::identify(cipher) {
-        Identified::Unlisted => return Checked::Refused(Refusal::Unlisted),
+        Identified::Unlisted => return Checked::Refused(Refusal::Unlisted(0)),
         Identified::As(c) => return check_sizes(c, seed, nonce, figures, salt, custom),
     }
 }

@@ -70,43 +70,43 @@ unfolding attachment attachmentOf shown opened judged judgedBy fault walk walkIn
     valueAt fits int32 le leBytes fieldBytes payloadLimit
 attachment-1 = refl
 
-attachment-2 : attachment payload 2 ≡ answer.Refused Absent
+attachment-2 : attachment payload 2 ≡ answer.Refused (Absent 29)
 unfolding attachment attachmentOf shown opened judged judgedBy fault walk walkIn put fieldOf repeated ruleOf fieldAt
     valueAt fits int32 le leBytes fieldBytes payloadLimit
 attachment-2 = refl
 
 -- no end field
-inner-cut : inner front ≡ read.Refused CutShort
+inner-cut : inner front ≡ read.Refused (CutShort 29)
 unfolding inner innerOf opened judged judgedBy fault walk walkIn put fieldOf repeated ruleOf fieldAt valueAt fits
     int32 le leBytes fieldBytes payloadLimit
 inner-cut = refl
 
 -- a repeated algorithm of a wrong size: 6 comes before 5
-inner-repeated : inner (fieldBytes 1 (leBytes 4 2) ++ fieldBytes 1 []) ≡ read.Refused Repeated
+inner-repeated : inner (fieldBytes 1 (leBytes 4 2) ++ fieldBytes 1 []) ≡ read.Refused (Repeated 9)
 unfolding inner innerOf opened judged judgedBy fault walk walkIn put fieldOf repeated ruleOf fieldAt valueAt fits
     int32 le leBytes fieldBytes payloadLimit
 inner-repeated = refl
 
 -- an end field of size 1: 5
-inner-end : inner (fieldBytes 0 (0x00 ∷ [])) ≡ read.Refused WrongSize
+inner-end : inner (fieldBytes 0 (0x00 ∷ [])) ≡ read.Refused (WrongSize 0)
 unfolding inner innerOf opened judged judgedBy fault walk walkIn put fieldOf repeated ruleOf fieldAt valueAt fits
     int32 le leBytes fieldBytes payloadLimit
 inner-end = refl
 
 -- algorithm 1 and no key: 8 comes before 9
-inner-absent : inner (fieldBytes 1 (leBytes 4 1) ++ fieldBytes 0 []) ≡ read.Refused Absent
+inner-absent : inner (fieldBytes 1 (leBytes 4 1) ++ fieldBytes 0 []) ≡ read.Refused (Absent 9)
 unfolding inner innerOf opened judged judgedBy fault walk walkIn put fieldOf repeated ruleOf fieldAt valueAt fits
     int32 le leBytes fieldBytes payloadLimit
 inner-absent = refl
 
 -- .. and with a key 9
-inner-unlisted : inner (fieldBytes 1 (leBytes 4 1) ++ fieldBytes 2 [] ++ fieldBytes 0 []) ≡ read.Refused Unlisted
+inner-unlisted : inner (fieldBytes 1 (leBytes 4 1) ++ fieldBytes 2 [] ++ fieldBytes 0 []) ≡ read.Refused (Unlisted 0)
 unfolding inner innerOf opened judged judgedBy fault walk walkIn put fieldOf repeated ruleOf fieldAt valueAt fits
     int32 le leBytes fieldBytes payloadLimit
 inner-unlisted = refl
 
 -- a run with a field of ID 2: 7
-writing-key : writing 2 [] (fieldBytes 2 (0x00 ∷ [])) [] 100 ≡ written.Refused UnknownField
+writing-key : writing 2 [] (fieldBytes 2 (0x00 ∷ [])) [] 100 ≡ written.Refused (UnknownField 0)
 unfolding writing planned runThen verdict run runFrom runIn before runAt fieldAt valueAt fits int32 le leBytes
     fieldBytes
 writing-key = refl

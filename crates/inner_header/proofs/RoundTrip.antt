@@ -42,6 +42,7 @@ use Rattle.inner_header.specs.declared.Attachment.{Attachment}
 use Rattle.inner_header.specs.declared.Attachment.the-variants as answer
 use Rattle.refusals.specs.declared.Written.the-variants as written
 use Rattle.inner_header.specs.InnerHeader.{
+  endField,
   Walked,
   Ended,
   Refused,
@@ -111,15 +112,16 @@ module _ (s : List ℕ) (h : Inner) (i : ℕ) where
   unfolding inner attachment
   attachment-answers e l = answers-of (opened s) refl e l
 
-  past-of : (w : Walked) → innerOf s w ≡ read.Header h → h .attachments ≤ i → attachmentOf s i w ≡ answer.Refused Absent
+  past-of : (w : Walked) → innerOf s w ≡ read.Header h → h .attachments ≤ i → attachmentOf s i w ≡ answer.Refused (Absent (endField (h .document)))
   unfolding innerOf attachmentOf
   past-of (Ended f end) e l =
       let n : length (f .attachments) ≡ h .attachments = cc in
       let b : length (f .attachments) ≤ i = omega arith in
-      rw (le-ltb i (length (f .attachments)) b)
+      let d : end ≡ h .document = cc in
+      rw (le-ltb i (length (f .attachments)) b, d)
   past-of (Refused r) e l = let z : _≡_ {A = ℕ} 0 1 = cc in absurd (omega arith)
 
-  pub attachment-past : inner s ≡ read.Header h → h .attachments ≤ i → attachment s i ≡ answer.Refused Absent
+  pub attachment-past : inner s ≡ read.Header h → h .attachments ≤ i → attachment s i ≡ answer.Refused (Absent (endField (h .document)))
   unfolding inner attachment
   attachment-past e l = past-of (opened s) e l
 
@@ -245,12 +247,13 @@ module _ (algorithm : ℕ) (key attachments document : List ℕ) (room n : ℕ)
       (record { content = contentOf (further b p); answers = refl; content-is = d })
 
   pub attachment-written-past : (l : List Place) → run attachments ≡ Fine l → (i : ℕ) → length l ≤ i
-      → attachment whole i ≡ answer.Refused Absent
+      → attachment whole i ≡ answer.Refused (Absent (14 + length key + length attachments))
   unfolding attachment attachmentOf
   attachment-written-past l e i h =
       let b = 14 + length key in
       let m : length (placed b l) ≤ i = rw (length-placed b l) h in
-      rw (opened-written l e, le-ltb i (length (placed b l)) m)
+      let d : 19 + length key + length attachments - 5 ≡ 14 + length key + length attachments = omega arith in
+      rw (opened-written l e, le-ltb i (length (placed b l)) m, d)
 
 -- a value's first byte, and the rest of it
 pub record ShowsValue (v s : List ℕ) (a : Attachment) : Type 0 where

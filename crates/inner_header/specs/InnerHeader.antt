@@ -9,6 +9,7 @@
 --   "The document is the rest, perhaps empty"                                  inner
 --   "Attachments count from 0; an index past the last is 8, after all the
 --    reader's numbers", "flags byte (any value) and content"                   attachment, shown
+--   document 02, Item 8: "for 8 the end field"; "the first byte of the field"  endField, fault, attachment
 -- A walk counts its fields down from the payload's length: a field has five bytes or more, so the count never ends it
 -- (proofs, Laws.Walk). A field that is absent has the place 0, where no field's value stands.
 -- Not here: a field at a place (crate fields); what the code keeps of the fields (Tally); what is written (Writer).
@@ -29,7 +30,7 @@ use Rattle.fields.specs.declared.SizeRule.{SizeRule}
 use Rattle.fields.specs.declared.SizeRule.the-variants.{Any, Exactly, AtLeast}
 use Rattle.fields.specs.declared.Field.{Field}
 use Rattle.fields.specs.declared.Field.the-variants as field
-use Rattle.fields.specs.Fields.{endOf, fieldAt, nowhere, given}
+use Rattle.fields.specs.Fields.{endOf, begin, fieldAt, nowhere, given}
 use Rattle.inner_header.specs.declared.Read.{Read}
 use Rattle.inner_header.specs.declared.Read.the-variants as read
 use Rattle.inner_header.specs.declared.Attachment.{Attachment}
@@ -80,27 +81,31 @@ walkIn f (field.Refused r) rest = Refused r
 walkIn f (field.At id p) rest = cond (eqb id 0) (Ended f (endOf p)) (rest (put f id p) (endOf p))
 
 unfoldable pub walk : ℕ → Fields → List ℕ → ℕ → Walked
-walk zero f s at = Refused CutShort
+walk zero f s at = Refused (CutShort (length s))
 walk (suc k) f s at = walkIn f (fieldOf (f .algorithm) (f .key) s at) (λ (g : Fields) (n : ℕ). walk k g s n)
 
 abbrev pub algorithmListed : ℕ → Bool
 algorithmListed n = eqb n 2 || eqb n 3
 
+-- where the end field begins, which has no value, and behind which the document starts
+abbrev pub endField : ℕ → ℕ
+endField end = end - 5
+
 -- algorithm and key present (8), then the algorithm listed (9)
-unfoldable pub fault : List ℕ → Place → Place → Outcome
-fault s a k =
+unfoldable pub fault : List ℕ → Place → Place → ℕ → Outcome
+fault s a k end =
     cond (given a)
     (cond (given k)
-    (cond (algorithmListed (le 4 s (a .start))) outcome.Accepted (outcome.Refused Unlisted))
-    (outcome.Refused Absent))
-    (outcome.Refused Absent)
+    (cond (algorithmListed (le 4 s (a .start))) outcome.Accepted (outcome.Refused (Unlisted (begin a))))
+    (outcome.Refused (Absent (endField end))))
+    (outcome.Refused (Absent (endField end)))
 
 unfoldable pub judgedBy : Outcome → Fields → ℕ → Walked
 judgedBy outcome.Accepted f end = Ended f end
 judgedBy (outcome.Refused r) f end = Refused r
 
 unfoldable pub judged : List ℕ → Walked → Walked
-judged s (Ended f end) = judgedBy (fault s (f .algorithm) (f .key)) f end
+judged s (Ended f end) = judgedBy (fault s (f .algorithm) (f .key) end) f end
 judged s (Refused r) = Refused r
 
 -- all the reader's checks, the payload's length first
@@ -129,7 +134,8 @@ shown s p = answer.At (getD s (p .start) 0) (record { start = p .start + 1; leng
 unfoldable pub attachmentOf : List ℕ → ℕ → Walked → Attachment
 attachmentOf s i (Refused r) = answer.Refused r
 attachmentOf s i (Ended f end) =
-    cond (ltb i (length (f .attachments))) (shown s (getD (f .attachments) i nowhere)) (answer.Refused Absent)
+    cond (ltb i (length (f .attachments))) (shown s (getD (f .attachments) i nowhere))
+    (answer.Refused (Absent (endField end)))
 
 unfoldable pub attachment : List ℕ → ℕ → Attachment
 attachment s i = attachmentOf s i (opened s)

@@ -7,6 +7,7 @@
 --   "Order: algorithm (9); each attachment by the reader's order (2, 7, 5);
 --    payload length (1); 17"                                                   writing, sized
 --   "A refusal .. changes no lent byte. A success changes only the bytes due"  writtenBytes
+--   document 02, Item 8: "from writers .. it is zero"                          verdict
 -- A walk over the run counts its fields down from the run's length: a field has five bytes or more, so the count
 -- never ends it (proofs, Laws.Run).
 -- Not here: a field at a place, and the bytes of a field (crate fields); reading (InnerHeader).
@@ -21,6 +22,7 @@ use Rattle.refusals.specs.declared.Refusal.{Refusal}
 use Rattle.refusals.specs.declared.Refusal.the-variants.{TooLong, NoRoom, Unlisted}
 use Rattle.refusals.specs.declared.Outcome.{Outcome}
 use Rattle.refusals.specs.declared.Outcome.the-variants as outcome
+use Rattle.refusals.specs.Numbers.{unplaced}
 use Rattle.refusals.specs.Limits.{payloadLimit}
 use Rattle.fields.specs.declared.Place.{Place}
 use Rattle.fields.specs.declared.SizeRule.the-variants.{AtLeast}
@@ -63,7 +65,7 @@ runBytes (v ∷ vs) = fieldBytes 3 v ++ runBytes vs
 
 unfoldable pub verdict : Run → Outcome
 verdict (Fine l) = outcome.Accepted
-verdict (Refused r) = outcome.Refused r
+verdict (Refused r) = outcome.Refused (unplaced r)
 
 -- the fields 1 and 2, the run, the field 0, the document
 unfoldable pub payloadBytes : ℕ → List ℕ → List ℕ → List ℕ → List ℕ
@@ -88,7 +90,7 @@ unfoldable pub planned : ℕ → ℕ → List ℕ → ℕ → ℕ → Written
 planned algorithm key attachments document room =
     cond (algorithmListed algorithm)
     (runThen (verdict (run attachments)) (sized (payloadLength key (length attachments) document) room))
-    (written.Refused Unlisted)
+    (written.Refused (Unlisted 0))
 
 unfoldable pub writing : ℕ → List ℕ → List ℕ → List ℕ → ℕ → Written
 writing algorithm key attachments document room =

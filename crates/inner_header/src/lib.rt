@@ -153,7 +153,7 @@ fn walk(s: &[u8], index: usize) -> Counted
         }
         left -= 1;
     }
-    Counted::Refused(Refusal::CutShort)
+    Counted::Refused(Refusal::CutShort(s.len()))
 }
 
 // Whether the algorithm is listed.
@@ -166,20 +166,31 @@ pub(crate) fn is_algorithm(n: u32) -> bool
     n == 3
 }
 
+// Where the end field begins, behind which the document starts at `end`.
+fn end_field(end: usize) -> usize
+    ensures { λ r. ⌜ r ≡ kdbx4.endField end ⌝ }
+{
+    if end < 5 {
+        return 0;
+    }
+    end - 5
+}
+
 // Algorithm and key present, then the algorithm listed.
-fn fault(s: &[u8], t: Tally) -> Outcome
-    ensures { λ r. ⌜ r ≡ kdbx4.fault (now (s .entry)) (t .algorithm) (t .key) ⌝ }
+fn fault(s: &[u8], t: Tally, end: usize) -> Outcome
+    ensures { λ r. ⌜ r ≡ kdbx4.fault (now (s .entry)) (t .algorithm) (t .key) end ⌝ }
 {
     if t.algorithm.start == 0 {
-        return Outcome::Refused(Refusal::Absent);
+        return Outcome::Refused(Refusal::Absent(end_field(end)));
     }
     if t.key.start == 0 {
-        return Outcome::Refused(Refusal::Absent);
+        return Outcome::Refused(Refusal::Absent(end_field(end)));
     }
     if is_algorithm(words::le::u32_at(s, t.algorithm.start)) {
         return Outcome::Accepted;
     }
-    Outcome::Refused(Refusal::Unlisted)
+    let p = t.algorithm;
+    Outcome::Refused(Refusal::Unlisted(fields::begin(p)))
 }
 
 // All the reader's checks, with the attachment of the index.
@@ -190,7 +201,7 @@ fn judge(s: &[u8], index: usize) -> Counted
         match walk(s, index) {
             Counted::Refused(r) => return Counted::Refused(r),
             Counted::Ended(t, end) => {
-                match fault(s, t) {
+                match fault(s, t, end) {
                     Outcome::Refused(r) => return Counted::Refused(r),
                     Outcome::Accepted => return Counted::Ended(t, end),
                 }
@@ -224,14 +235,14 @@ pub fn find_attachment(payload: &[u8], index: usize) -> Attachment
 {
     match judge(payload, index) {
         Counted::Refused(r) => return Attachment::Refused(r),
-        Counted::Ended(t, _) => {
+        Counted::Ended(t, end) => {
             if index < t.attachments {
                 let start = t.asked.start + 1;
                 let length = t.asked.length - 1;
                 let flags = words::byte_at(payload, t.asked.start);
                 return Attachment::At(flags, Place { start, length });
             }
-            return Attachment::Refused(Refusal::Absent);
+            return Attachment::Refused(Refusal::Absent(end_field(end)));
         }
     }
 }

@@ -33,7 +33,7 @@ fn check_run(run: &[u8]) -> Outcome
             false,
             SizeRule::AtLeast(1),
         ) {
-            Field::Refused(r) => return Outcome::Refused(r),
+            Field::Refused(r) => return Outcome::Refused(r.unplaced()),
             Field::At(_, p) => {
                 at = p.start + p.length;
             }
@@ -76,7 +76,7 @@ fn plan(algorithm: u32, key: usize, run: &[u8], document: usize, room: usize) ->
             Outcome::Accepted => return size(key, run.len(), document, room),
         }
     }
-    Written::Refused(Refusal::Unlisted)
+    Written::Refused(Refusal::Unlisted(0))
 }
 
 // Lays a payload over the front of the lent output.

@@ -60,7 +60,7 @@ unfoldable pub applying : ℕ → List ℕ → ℕ → List ℕ → ℕ → Writ
 applying algorithm key position s room =
     cond (listed algorithm)
     (cond (leb (length key) streamLimit) (planned position (length s) room) (Refused TooLong))
-    (Refused Unlisted)
+    (Refused (Unlisted 0))
 
 -- the bytes that the lent output then has at its front: none on a refusal
 unfoldable pub due : Written → List ℕ → List ℕ

@@ -50,7 +50,7 @@ started algorithm key =
     (cond (leb (length key) streamLimit)
     (record { outcome = outcome.Accepted; next = streamAt algorithm key 0 })
     (refused TooLong))
-    (refused Unlisted)
+    (refused (Unlisted 0))
 
 abbrev pub hasCipher : StreamCipher → Bool
 hasCipher Salsa20 = true

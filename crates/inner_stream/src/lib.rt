@@ -135,7 +135,7 @@ impl InnerStream {
             }
             return InnerStream::refuse(Refusal::TooLong);
         }
-        InnerStream::refuse(Refusal::Unlisted)
+        InnerStream::refuse(Refusal::Unlisted(0))
     }
 
     // The stream of an algorithm, 3 or 2, and a key, at a position.
@@ -282,5 +282,5 @@ pub fn apply(algorithm: u32, key: &[u8], position: u64, bytes: &[u8], out: &mut 
         }
         return Written::Refused(Refusal::TooLong);
     }
-    Written::Refused(Refusal::Unlisted)
+    Written::Refused(Refusal::Unlisted(0))
 }

@@ -4,12 +4,12 @@
 // The contracts cite specs/KdfDictionary. Refusals: 10 and 6 for the dictionary itself, then for its items 10 and 9 of
 // the identifier; of AES-KDF 10, 11 and 20; of Argon2 10, 9 and 22.
 ghost use mathlib.Core.Path.{_≡_};
-ghost use Prim.Native.Nat.{_+_, _^_, _<_};
+ghost use Prim.Native.Nat.{_+_, _^_, _<_, _≤_};
 ghost use lib.ListN.{length};
 ghost use Rattle.kdf_dictionary.specs.KdfDictionary as kdbx4;
 use dictionary::Found;
+use dictionary::Verdict;
 use fields::Place;
-use refusals::Outcome;
 use refusals::Refusal;
 
 pub mod writer;
@@ -162,6 +162,29 @@ fn has_item(d: &[u8], name: &[u8]) -> bool
     }
 }
 
+// Where the item of a name begins in the file: the dictionary's front where there is none.
+fn fault_at(d: &[u8], p: Place, name: &[u8]) -> usize
+    requires { ⌜ p .start + length (now d) < 2 ^ 64 ⌝ }
+    requires { ⌜ length (now name) ≤ 5 ⌝ }
+    ensures { λ r. ⌜ r ≡ kdbx4.faultAt (now (d .entry)) p (now (name .entry)) ⌝ }
+{
+    let front = 9 + name.len();
+    match dictionary::search(d, name) {
+        Found::Refused(_) => return p.start,
+        Found::Absent => return p.start,
+        Found::At {
+            kind: _,
+            start,
+            length: _,
+        } => {
+            if start < front {
+                return p.start;
+            }
+            return p.start + (start - front);
+        }
+    }
+}
+
 // A place in the dictionary at `p`, as a place in the file.
 fn place_in(p: Place, q: Place) -> Place
     requires { ⌜ p .start + q .start < 2 ^ 64 ⌝ }
@@ -210,6 +233,60 @@ fn is_complete(i: Items) -> bool
     i.lanes.start != 0
 }
 
+// The first of Argon2's items that is absent or of another type.
+fn incomplete_at(d: &[u8], p: Place, i: Items) -> usize
+    requires { ⌜ p .start + length (now d) < 2 ^ 64 ⌝ }
+    ensures { λ r. ⌜ r ≡ kdbx4.faultAt (now (d .entry)) p (kdbx4.incomplete i) ⌝ }
+{
+    if i.version.start == 0 {
+        return fault_at(d, p, b"V");
+    }
+    if i.salt.start == 0 {
+        return fault_at(d, p, b"S");
+    }
+    if i.passes.start == 0 {
+        return fault_at(d, p, b"I");
+    }
+    if i.memory.start == 0 {
+        return fault_at(d, p, b"M");
+    }
+    fault_at(d, p, b"P")
+}
+
+// The first of `V`, `K` and `A` that is not listed.
+fn unlisted_at(d: &[u8], p: Place, v: Place) -> usize
+    requires { ⌜ p .start + length (now d) < 2 ^ 64 ⌝ }
+    ensures { λ r. ⌜ r ≡ kdbx4.faultAt (now (d .entry)) p (kdbx4.unlisted (now (d .entry)) v) ⌝ }
+{
+    if words::le::u32_at(d, v.start) == 0x13 {
+        if has_item(d, b"K") {
+            return fault_at(d, p, b"K");
+        }
+        return fault_at(d, p, b"A");
+    }
+    fault_at(d, p, b"V")
+}
+
+// The first of Argon2's figures that is outside its bounds; too little memory for the lanes is the memory's.
+fn outside_at(d: &[u8], p: Place, salt: usize, passes: u64, memory: u64, lanes: u32) -> usize
+    requires { ⌜ p .start + length (now d) < 2 ^ 64 ⌝ }
+    ensures { λ r. ⌜ r ≡ kdbx4.faultAt (now (d .entry)) p (kdbx4.outside salt passes memory lanes) ⌝ }
+{
+    if refusals::limits::salt_fits(salt) {
+        if refusals::limits::passes_fit(passes) {
+            if refusals::limits::memory_fits(memory) {
+                if refusals::limits::lanes_fit(lanes) {
+                    return fault_at(d, p, b"M");
+                }
+                return fault_at(d, p, b"P");
+            }
+            return fault_at(d, p, b"M");
+        }
+        return fault_at(d, p, b"I");
+    }
+    fault_at(d, p, b"S")
+}
+
 // Whether Argon2 is of version 0x13, with no secret and no associated data.
 fn is_listed(d: &[u8], version: Place) -> bool
     ensures { λ r. ⌜ r ≡ kdbx4.argon2Listed (now (d .entry)) version ⌝ }
@@ -238,6 +315,7 @@ fn kdf_of(v: Variant, a: Argon2) -> Kdf
 
 // Argon2's figures, read from its items.
 fn figures_of(d: &[u8], p: Place, v: Variant, i: Items) -> Reading
+    requires { ⌜ p .start + length (now d) < 2 ^ 64 ⌝ }
     requires { ⌜ p .start + i .salt .start < 2 ^ 64 ⌝ }
     ensures { λ r. ⌜ r ≡ kdbx4.argon2Figures (now (d .entry)) p v i ⌝ }
 {
@@ -257,7 +335,7 @@ fn figures_of(d: &[u8], p: Place, v: Variant, i: Items) -> Reading
             },
         ));
     }
-    Reading::Refused(Refusal::FigureOutside)
+    Reading::Refused(Refusal::FigureOutside(outside_at(d, p, q.length, passes, memory, lanes)))
 }
 
 // What the dictionary of a form of Argon2 asks for.
@@ -271,9 +349,9 @@ fn argon2_of(d: &[u8], p: Place, v: Variant) -> Reading
         if is_listed(d, version) {
             return figures_of(d, p, v, i);
         }
-        return Reading::Refused(Refusal::Unlisted);
+        return Reading::Refused(Refusal::Unlisted(unlisted_at(d, p, version)));
     }
-    Reading::Refused(Refusal::BrokenDictionary)
+    Reading::Refused(Refusal::BrokenDictionary(incomplete_at(d, p, i)))
 }
 
 // What the dictionary of AES-KDF asks for.
@@ -284,10 +362,10 @@ fn aes_kdf_of(d: &[u8], p: Place) -> Reading
     let q = item_of(d, b"S", 0x42);
     let r = item_of(d, b"R", 0x05);
     if q.length != 32 {
-        return Reading::Refused(Refusal::BrokenDictionary);
+        return Reading::Refused(Refusal::BrokenDictionary(fault_at(d, p, b"S")));
     }
     if r.start == 0 {
-        return Reading::Refused(Refusal::BrokenDictionary);
+        return Reading::Refused(Refusal::BrokenDictionary(fault_at(d, p, b"R")));
     }
     let rounds = words::le::u64_at(d, r.start);
     if refusals::limits::rounds_fit(rounds) {
@@ -295,9 +373,9 @@ fn aes_kdf_of(d: &[u8], p: Place) -> Reading
             let seed = place_in(p, q);
             return Reading::Asks(Kdf::AesKdf(AesKdf { seed, rounds }));
         }
-        return Reading::Refused(Refusal::TooFewRounds);
+        return Reading::Refused(Refusal::TooFewRounds(fault_at(d, p, b"R")));
     }
-    Reading::Refused(Refusal::TooManyRounds)
+    Reading::Refused(Refusal::TooManyRounds(fault_at(d, p, b"R")))
 }
 
 // What an identifier is listed as.
@@ -325,7 +403,7 @@ fn listed_of(d: &[u8], p: Place, kdf: Listed) -> Reading
     ensures { λ r. ⌜ r ≡ kdbx4.listedIn (now (d .entry)) p kdf ⌝ }
 {
     match kdf {
-        Listed::Unlisted => return Reading::Refused(Refusal::Unlisted),
+        Listed::Unlisted => return Reading::Refused(Refusal::Unlisted(fault_at(d, p, b"$UUID"))),
         Listed::AesKdf => return aes_kdf_of(d, p),
         Listed::Argon2(v) => return argon2_of(d, p, v),
     }
@@ -338,7 +416,7 @@ fn uuid_of(d: &[u8], p: Place) -> Reading
 {
     let q = item_of(d, b"$UUID", 0x42);
     if q.length != 16 {
-        return Reading::Refused(Refusal::BrokenDictionary);
+        return Reading::Refused(Refusal::BrokenDictionary(fault_at(d, p, b"$UUID")));
     }
     let kdf = identify(slices::part(d, q.start, q.length));
     listed_of(d, p, kdf)
@@ -350,7 +428,8 @@ pub fn read(s: &[u8], p: Place) -> Reading
 {
     let d = slices::part(s, p.start, p.length);
     match dictionary::check(d) {
-        Outcome::Refused(r) => return Reading::Refused(r),
-        Outcome::Accepted => return uuid_of(d, p),
+        Verdict::Broken(at) => return Reading::Refused(Refusal::BrokenDictionary(p.start + at)),
+        Verdict::Repeated(at) => return Reading::Refused(Refusal::Repeated(p.start + at)),
+        Verdict::Sound => return uuid_of(d, p),
     }
 }

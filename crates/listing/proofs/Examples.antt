@@ -1,6 +1,6 @@
 -- The worked listing of document 01, "Numbers to meet", with the rounds of document 02, Item 3, as a theorem.
 --
--- In order: short (an empty input), listed (the seven lines), few ("a header with R = 1 prints R20").
+-- In order: short (an empty input), listed (the seven lines), few ("Item 3's case prints R20 133").
 -- Assumes nothing.
 use mathlib.Core.Path.{_≡_, refl}
 use mathlib.Core.List.{List, [], _∷_, _++_, flatMap}
@@ -20,7 +20,10 @@ use Rattle.ciphers.specs.declared.Cipher.the-variants.{ChaCha20}
 use Rattle.dictionary.specs.Dictionary as dictionary
 use Rattle.dictionary.specs.Dictionary.{itemBytes}
 use Rattle.kdf_dictionary.specs.Kdf.{aesKdfBytes}
+use Rattle.kdf_dictionary.specs.KdfDictionary as kdfs
 use Rattle.kdf_dictionary.specs.KdfDictionary.{typedIn, aesKdfIn, aesKdfOf, listedAs, listedIn, uuidIn, uuidOf, kdfIn, kdfOf}
+use Rattle.decimal.specs.Decimal as decimals
+use Rattle.decimal.specs.Decimal.{decimalIn, decimal}
 use Rattle.outer_header.specs.Kdbx4Header as kdbx4
 use Rattle.outer_header.specs.Frames.{fieldFrames, frames}
 use Rattle.listing.specs.Listing.{hexLine, hexLines, refusalLine, textOf, text}
@@ -41,8 +44,8 @@ chaChaHeader rounds =
     ++ fieldBytes 11 (aesKdfBytes (replicate 32 0x33) rounds)
     ++ fieldBytes 0 (0x0D ∷ 0x0A ∷ 0x0D ∷ 0x0A ∷ [])
 
-short : text [] ≡ ascii "R02\n"
-unfolding ascii text textOf refusalLine kdbx4.header programLimit fileLimit
+short : text [] ≡ ascii "R02 0\n"
+unfolding ascii text textOf refusalLine kdbx4.header programLimit fileLimit decimals.digit decimalIn decimal
 short = refl
 
 listed : text (chaChaHeader 6_000)
@@ -58,6 +61,6 @@ listed : text (chaChaHeader 6_000)
 unfolding ascii text textOf hexLines hexLine encode byteDigits digit flatMap frames fieldFrames kdbx4.header kdbx4.body kdbx4.judgedIn kdbx4.judged kdbx4.identified kdbx4.figures kdbx4.figuresIn kdbx4.customOf kdbx4.complete kdbx4.walk kdbx4.walkIn kdbx4.endsRight kdbx4.fieldHere kdbx4.noFields kdbx4.put kdbx4.seen kdbx4.sizeRule kdbx4.listed fieldAt valueAt fits int32 le leBytes same fieldBytes aesKdfBytes itemBytes identifier cipherOf nonceLength kdfOf kdfIn uuidOf uuidIn listedAs listedIn aesKdfOf aesKdfIn typedIn roundsLimit roundsLeast fileLimit programLimit dictionary.verdict dictionary.walk dictionary.walkIn dictionary.named dictionary.namedIn dictionary.entryAt dictionary.nameAt dictionary.valueAt dictionary.sizeFits dictionary.searchFrom dictionary.searchIn
 listed = refl
 
-few : text (chaChaHeader 1) ≡ ascii "R20\n"
-unfolding ascii text textOf refusalLine hexLines hexLine encode byteDigits digit flatMap frames fieldFrames kdbx4.header kdbx4.body kdbx4.judgedIn kdbx4.judged kdbx4.identified kdbx4.figures kdbx4.figuresIn kdbx4.customOf kdbx4.complete kdbx4.walk kdbx4.walkIn kdbx4.endsRight kdbx4.fieldHere kdbx4.noFields kdbx4.put kdbx4.seen kdbx4.sizeRule kdbx4.listed fieldAt valueAt fits int32 le leBytes same fieldBytes aesKdfBytes itemBytes identifier cipherOf nonceLength kdfOf kdfIn uuidOf uuidIn listedAs listedIn aesKdfOf aesKdfIn typedIn roundsLimit roundsLeast fileLimit programLimit dictionary.verdict dictionary.walk dictionary.walkIn dictionary.named dictionary.namedIn dictionary.entryAt dictionary.nameAt dictionary.valueAt dictionary.sizeFits dictionary.searchFrom dictionary.searchIn
+few : text (chaChaHeader 1) ≡ ascii "R20 133\n"
+unfolding ascii text textOf refusalLine decimals.digit decimalIn decimal hexLines hexLine encode byteDigits digit flatMap frames fieldFrames kdbx4.header kdbx4.body kdbx4.judgedIn kdbx4.judged kdbx4.identified kdbx4.figures kdbx4.figuresIn kdbx4.customOf kdbx4.complete kdbx4.walk kdbx4.walkIn kdbx4.endsRight kdbx4.fieldHere kdbx4.noFields kdbx4.put kdbx4.seen kdbx4.sizeRule kdbx4.listed fieldAt valueAt fits int32 le leBytes same fieldBytes aesKdfBytes itemBytes identifier cipherOf nonceLength kdfOf kdfIn uuidOf uuidIn listedAs listedIn aesKdfOf aesKdfIn typedIn roundsLimit roundsLeast fileLimit programLimit dictionary.verdict dictionary.walk dictionary.walkIn dictionary.named dictionary.namedIn dictionary.entryAt dictionary.nameAt dictionary.valueAt dictionary.sizeFits dictionary.searchFrom dictionary.searchIn kdfs.faultIn
 few = refl

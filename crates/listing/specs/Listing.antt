@@ -2,16 +2,18 @@
 --
 --   ".. as a line of upper-case hexadecimal"                       hexLine
 --   "if the header is accepted, prints each frame .."              hexLines, frameLines, fieldLines, textOf
---   "Otherwise one line, R and two decimal digits"                 refusalLine, textOf
+--   "Otherwise one line, R and two decimal digits"                 numberLine, refusalLine, textOf
+--   document 02, Item 8: "prints it after the number, one space
+--   between, in decimal (1 has none)"                              placedLine, refusalLine
 --   "a PC program's input: 65,536 bytes", else R01                 text
 --   "the lent output is shorter than the bytes due" (17)           answer, after
 -- Every line ends with a line feed, and nothing is printed for bytes behind the header.
--- Not here: the frames (crate outer_header, Frames), hexadecimal digits (crate hex, Rfc4648).
+-- Not here: the frames (crate outer_header, Frames), hexadecimal digits (crate hex, Rfc4648), decimal (crate decimal).
 -- Assumes nothing.
 use mathlib.Core.Bool.{cond}
 use mathlib.Core.List.{List, [], _∷_, _++_, flatMap}
 use Prim.Native.Nat.{ℕ, _+_, _/_, _%_}
-use lib.Dec.{leb}
+use lib.Dec.{eqb, leb}
 use lib.ListN.{length}
 use Rattle.slices.specs.Over.{over}
 use Rattle.hex.specs.Rfc4648.{encode}
@@ -19,8 +21,9 @@ use Rattle.refusals.specs.declared.Refusal.{Refusal}
 use Rattle.refusals.specs.declared.Refusal.the-variants.{TooLong, NoRoom}
 use Rattle.refusals.specs.declared.Written.{Written}
 use Rattle.refusals.specs.declared.Written.the-variants.{Wrote, Refused}
-use Rattle.refusals.specs.Numbers.{ofRefusal}
+use Rattle.refusals.specs.Numbers.{ofRefusal, placeOf}
 use Rattle.refusals.specs.Limits.{programLimit}
+use Rattle.decimal.specs.Decimal.{decimal}
 use Rattle.outer_header.specs.declared.Reading.{Reading}
 use Rattle.outer_header.specs.declared.Reading.the-variants as read
 use Rattle.outer_header.specs.Kdbx4Header.{header}
@@ -40,8 +43,15 @@ abbrev pub fieldLines : List ℕ → List ℕ
 fieldLines s = hexLines (fieldFrames (length s) s 12)
 
 -- R, the tens and the ones
+abbrev pub numberLine : ℕ → List ℕ
+numberLine n = 0x52 ∷ (0x30 + n / 10) ∷ (0x30 + n % 10) ∷ 0x0A ∷ []
+
+-- .. and behind one space the digits of a place
+abbrev pub placedLine : ℕ → List ℕ → List ℕ
+placedLine n w = 0x52 ∷ (0x30 + n / 10) ∷ (0x30 + n % 10) ∷ 0x20 ∷ (w ++ (0x0A ∷ []))
+
 unfoldable pub refusalLine : Refusal → List ℕ
-refusalLine r = 0x52 ∷ (0x30 + ofRefusal r / 10) ∷ (0x30 + ofRefusal r % 10) ∷ 0x0A ∷ []
+refusalLine r = cond (eqb (ofRefusal r) 1) (numberLine (ofRefusal r)) (placedLine (ofRefusal r) (decimal (placeOf r)))
 
 unfoldable pub textOf : List ℕ → Reading → List ℕ
 textOf s (read.Header h) = frameLines s

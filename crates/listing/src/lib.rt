@@ -2,7 +2,7 @@
 //
 //   03D9A29A67FB4BB501000400        signatures and version
 //   0210000000D6038A2B…             a line for each field: ID, size and value
-//   R07                             or, of a header that is refused, its number
+//   R07 12                          or, of a header that is refused, its number and place (R01 has none)
 //
 // `list` writes the text into a lent slice, all of it or nothing. The contracts cite specs/Listing. An input over
 // 65,536 bytes has the text R01; an output that is too short is refusal 17.
@@ -10,6 +10,7 @@ ghost use mathlib.Core.Path.{_≡_};
 ghost use Prim.Native.Nat.{_+_, _*_, _≤_, _<_};
 ghost use lib.ListN.{length};
 ghost use Rattle.slices.specs.Over.{over};
+ghost use Rattle.decimal.specs.Decimal as decimals;
 ghost use Rattle.outer_header.specs.Kdbx4Header as kdbx4;
 ghost use Rattle.outer_header.specs.Frames as frames;
 ghost use Rattle.outer_header.specs.declared.Reading.the-variants as readings;
@@ -103,20 +104,61 @@ fn list_frames(s: &[u8], h: Header, out: &mut [u8]) -> Written
     Written::Refused(Refusal::NoRoom)
 }
 
-// Writes the text of a refusal.
-fn list_refusal(why: Refusal, out: &mut [u8]) -> Written
-    ensures { λ r. ⌜ r ≡ listing.answer (listing.refusalLine why) (now (out .entry)) ⌝ }
-    ensures { λ _. ⌜ now (out .exit) ≡ listing.after (listing.refusalLine why) (now (out .entry)) ⌝ }
+// Writes the line of a number alone.
+fn list_number(n: u8, out: &mut [u8]) -> Written
+    ensures { λ r. ⌜ r ≡ listing.answer (listing.numberLine n) (now (out .entry)) ⌝ }
+    ensures { λ _. ⌜ now (out .exit) ≡ listing.after (listing.numberLine n) (now (out .entry)) ⌝ }
 {
     if out.len() < 4 {
         return Written::Refused(Refusal::NoRoom);
     }
-    let n = why.number();
     out[0] = b'R';
     out[1] = b'0' + n / 10;
     out[2] = b'0' + n % 10;
     out[3] = b'\n';
     Written::Wrote(4)
+}
+
+// Writes a number, a space and the digits of a place over the front of `out`.
+fn put_place(n: u8, digits: &[u8], out: &mut [u8])
+    requires { ⌜ 5 + length (now digits) ≤ length (now out) ⌝ }
+    ensures { λ _. ⌜ now (out .exit) ≡ over (listing.placedLine n (now (digits .entry))) (now (out .entry)) ⌝ }
+{
+    let k = digits.len();
+    out[0] = b'R';
+    out[1] = b'0' + n / 10;
+    out[2] = b'0' + n % 10;
+    out[3] = b' ';
+    slices::copy(&mut out[4..], digits);
+    out[4 + k] = b'\n';
+}
+
+// Writes the line of a number and a place.
+fn list_place(n: u8, place: usize, out: &mut [u8]) -> Written
+    ensures { λ r. ⌜ r ≡ listing.answer (listing.placedLine n (decimals.decimal place)) (now (out .entry)) ⌝ }
+    ensures { λ _. ⌜ now (out .exit) ≡ listing.after (listing.placedLine n (decimals.decimal place)) (now (out .entry)) ⌝ }
+{
+    let d = decimal::decimal(place);
+    let start = d.start;
+    let text = d.text;
+    let k = 25 - start;
+    if out.len() < k {
+        return Written::Refused(Refusal::NoRoom);
+    }
+    put_place(n, slices::part(&text, start, 20), out);
+    Written::Wrote(k)
+}
+
+// Writes the text of a refusal.
+fn list_refusal(why: Refusal, out: &mut [u8]) -> Written
+    ensures { λ r. ⌜ r ≡ listing.answer (listing.refusalLine why) (now (out .entry)) ⌝ }
+    ensures { λ _. ⌜ now (out .exit) ≡ listing.after (listing.refusalLine why) (now (out .entry)) ⌝ }
+{
+    let n = why.number();
+    if n == 1 {
+        return list_number(n, out);
+    }
+    list_place(n, why.place(), out)
 }
 
 // Writes the text of an input over the front of `out`, and answers how long it is.

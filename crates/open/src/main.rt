@@ -226,6 +226,7 @@ fn open_in(
         memory,
     ) {
         Unlocked::Refused(why) => unlocking::report::refusal(STDERR_FILENO, why),
+        Unlocked::PayloadRefused(why) => unlocking::report::payload_refusal(STDERR_FILENO, why),
         Unlocked::Document(start, end) => {
             io::write_all(
                 STDOUT_FILENO,

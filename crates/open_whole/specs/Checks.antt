@@ -27,7 +27,7 @@ surveyIn (block.Data n) more end = more n
 surveyIn block.Closing more end = end
 
 unfoldable pub survey : ℕ → List ℕ → List ℕ → ℕ → ℕ → ℕ → Surveyed
-survey zero base f i p c = Refused CutShort
+survey zero base f i p c = Refused (CutShort 0)
 survey (suc m) base f i p c =
     surveyIn (judge base f i p) (λ (n : ℕ). survey m base f (suc i) (p + 36 + n) (c + n)) (surveyClose f p c)
 

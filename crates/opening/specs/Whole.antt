@@ -29,7 +29,7 @@ walkIn Closing more end = end
 
 -- from block i at p on, behind the ciphertext t
 unfoldable pub walk : ℕ → Keys → List ℕ → ℕ → ℕ → List ℕ → Opened
-walk zero k f i p t = refused CutShort
+walk zero k f i p t = refused (CutShort 0)
 walk (suc m) k f i p t =
     walkIn (judge (k .base) f i p)
     (λ (n : ℕ). walk m k f (suc i) (p + 36 + n) (t ++ dataAt f p n))

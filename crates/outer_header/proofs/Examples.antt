@@ -6,8 +6,9 @@
 --   custom-long        "Of 7FFFFFFF in a short file: 2"
 --   rounds-most, rounds-more    "Rounds 4,000,000 pass, 4,000,001 give 11"
 --   header-listed      the 4.1 ChaCha20 header with R = 6,000, seeds of bytes 11 and 33, nonce of bytes 22
---   header-few         .. with R = 1: 20 (document 02, Item 3)
 --   header-argon2id    .. with Argon2id at its greatest memory and lanes instead, salt of bytes 33
+--   header-placed      .. with R = 4,000,001: 11, at the item R
+--   header-few         .. with R = 1: 20, at the item R (document 02, Items 3 and 8)
 -- Assumes nothing.
 use mathlib.Core.Path.{_≡_, refl}
 use mathlib.Core.Bool.{true, false}
@@ -27,9 +28,10 @@ use Rattle.fields.specs.declared.Field.the-variants as field
 use Rattle.ciphers.specs.Ciphers.{identifier, cipherOf, nonceLength}
 use Rattle.ciphers.specs.declared.Cipher.the-variants.{ChaCha20}
 use Rattle.dictionary.specs.Dictionary as dictionary
-use Rattle.kdf_dictionary.specs.Kdf.{argon2idUuid, aesKdfBytes, argon2Bytes}
+use Rattle.kdf_dictionary.specs.Kdf.{argon2idUuid, roundsName, aesKdfBytes, argon2Bytes}
 use Rattle.dictionary.specs.Dictionary.{itemBytes}
 use Rattle.kdf_dictionary.specs.KdfDictionary as kdfs
+use Rattle.kdf_dictionary.specs.KdfDictionary.{faultAt}
 use Rattle.kdf_dictionary.specs.KdfDictionary.{
   typedIn,
   isFound,
@@ -73,7 +75,7 @@ use Rattle.outer_header.specs.Kdbx4Header.{
 }
 
 -- fewer than twelve bytes of anything
-pub header-short : (s : List ℕ) → length s < 12 → header s ≡ read.Refused CutShort
+pub header-short : (s : List ℕ) → length s < 12 → header s ≡ read.Refused (CutShort (length s))
 unfolding header fileLimit
 header-short s h =
     let l : length s ≤ fileLimit = omega arith in
@@ -81,12 +83,12 @@ header-short s h =
 
 module _ (f : Fields) (s : List ℕ) (at : ℕ) (fresh : seen f 12 ≡ false) (here : at + 5 ≤ length s)
     (custom : getD s at 0 ≡ 12) where
-  pub custom-negative : le 4 s (at + 1) ≡ 0xFFFFFFFF → fieldHere f s at ≡ field.Refused WrongSize
+  pub custom-negative : le 4 s (at + 1) ≡ 0xFFFFFFFF → fieldHere f s at ≡ field.Refused (WrongSize at)
   unfolding fieldHere fieldAt valueAt int32 listed
   custom-negative e = rw (custom, fresh, le-leb _ _ here, e)
 
   -- no file within the limit has a value so long
-  pub custom-long : le 4 s (at + 1) ≡ 0x7FFFFFFF → length s ≤ fileLimit → fieldHere f s at ≡ field.Refused CutShort
+  pub custom-long : le 4 s (at + 1) ≡ 0x7FFFFFFF → length s ≤ fileLimit → fieldHere f s at ≡ field.Refused (CutShort (length s))
   unfolding fieldHere fieldAt valueAt int32 listed sizeRule fits fileLimit
   custom-long e h =
       let l : length s - (at + 5) < 0x7FFFFFFF = omega arith in
@@ -98,7 +100,7 @@ module _ (d : List ℕ) (p q r : Place) (long : q .length ≡ 32) (there : given
   unfolding aesKdfIn roundsLimit roundsLeast
   rounds-most e = rw (eq-eqb (q .length) 32 long, there, e)
 
-  pub rounds-more : le 8 d (r .start) ≡ 4_000_001 → aesKdfIn d p q r ≡ asks.Refused TooManyRounds
+  pub rounds-more : le 8 d (r .start) ≡ 4_000_001 → aesKdfIn d p q r ≡ asks.Refused (TooManyRounds (faultAt d p roundsName))
   unfolding aesKdfIn roundsLimit roundsLeast
   rounds-more e = rw (eq-eqb (q .length) 32 long, there, e)
 
@@ -128,10 +130,6 @@ pub header-listed : header (chaChaHeader (aesKdfBytes (replicate 32 0x33) 6_000)
 unfolding header body judgedIn judged identified figures figuresIn customOf complete walk walkIn endsRight fieldHere noFields put seen sizeRule listed fieldAt valueAt fits int32 le leBytes same fieldBytes aesKdfBytes argon2Bytes itemBytes identifier cipherOf nonceLength kdfOf kdfIn uuidOf uuidIn listedAs listedIn aesKdfOf aesKdfIn typedIn isFound argon2Items kdfs.complete argon2Listed argon2Figures argon2In argon2Fits roundsLimit roundsLeast fileLimit dictionary.verdict dictionary.walk dictionary.walkIn dictionary.named dictionary.namedIn dictionary.entryAt dictionary.nameAt dictionary.valueAt dictionary.sizeFits dictionary.searchFrom dictionary.searchIn
 header-listed = refl
 
-pub header-few : header (chaChaHeader (aesKdfBytes (replicate 32 0x33) 1)) ≡ read.Refused TooFewRounds
-unfolding header body judgedIn judged identified figures figuresIn customOf complete walk walkIn endsRight fieldHere noFields put seen sizeRule listed fieldAt valueAt fits int32 le leBytes same fieldBytes aesKdfBytes argon2Bytes itemBytes identifier cipherOf nonceLength kdfOf kdfIn uuidOf uuidIn listedAs listedIn aesKdfOf aesKdfIn typedIn isFound argon2Items kdfs.complete argon2Listed argon2Figures argon2In argon2Fits roundsLimit roundsLeast fileLimit dictionary.verdict dictionary.walk dictionary.walkIn dictionary.named dictionary.namedIn dictionary.entryAt dictionary.nameAt dictionary.valueAt dictionary.sizeFits dictionary.searchFrom dictionary.searchIn
-header-few = refl
-
 pub header-argon2id : header (chaChaHeader (argon2Bytes argon2idUuid (replicate 32 0x33) 2 67_108_864 16))
     ≡ read.Header
     (record {
@@ -148,3 +146,13 @@ pub header-argon2id : header (chaChaHeader (argon2Bytes argon2idUuid (replicate 
     })
 unfolding header body judgedIn judged identified figures figuresIn customOf complete walk walkIn endsRight fieldHere noFields put seen sizeRule listed fieldAt valueAt fits int32 le leBytes same fieldBytes aesKdfBytes argon2Bytes itemBytes identifier cipherOf nonceLength kdfOf kdfIn uuidOf uuidIn listedAs listedIn aesKdfOf aesKdfIn typedIn isFound argon2Items kdfs.complete argon2Listed argon2Figures argon2In argon2Fits roundsLimit roundsLeast fileLimit dictionary.verdict dictionary.walk dictionary.walkIn dictionary.named dictionary.namedIn dictionary.entryAt dictionary.nameAt dictionary.valueAt dictionary.sizeFits dictionary.searchFrom dictionary.searchIn
 header-argon2id = refl
+
+-- document 02, Item 8: the item `R` of this header stands at 133
+pub header-placed : header (chaChaHeader (aesKdfBytes (replicate 32 0x33) 4_000_001)) ≡ read.Refused (TooManyRounds 133)
+unfolding header body judgedIn judged identified figures figuresIn customOf complete walk walkIn endsRight fieldHere noFields put seen sizeRule listed fieldAt valueAt fits int32 le leBytes same fieldBytes aesKdfBytes argon2Bytes itemBytes identifier cipherOf nonceLength kdfOf kdfIn uuidOf uuidIn listedAs listedIn aesKdfOf aesKdfIn typedIn isFound argon2Items kdfs.complete argon2Listed argon2Figures argon2In argon2Fits roundsLimit roundsLeast fileLimit dictionary.verdict dictionary.walk dictionary.walkIn dictionary.named dictionary.namedIn dictionary.entryAt dictionary.nameAt dictionary.valueAt dictionary.sizeFits dictionary.searchFrom dictionary.searchIn kdfs.faultIn
+header-placed = refl
+
+-- Item 3's case: one round is refused with 20 at 133
+pub header-few : header (chaChaHeader (aesKdfBytes (replicate 32 0x33) 1)) ≡ read.Refused (TooFewRounds 133)
+unfolding header body judgedIn judged identified figures figuresIn customOf complete walk walkIn endsRight fieldHere noFields put seen sizeRule listed fieldAt valueAt fits int32 le leBytes same fieldBytes aesKdfBytes argon2Bytes itemBytes identifier cipherOf nonceLength kdfOf kdfIn uuidOf uuidIn listedAs listedIn aesKdfOf aesKdfIn typedIn isFound argon2Items kdfs.complete argon2Listed argon2Figures argon2In argon2Fits roundsLimit roundsLeast fileLimit dictionary.verdict dictionary.walk dictionary.walkIn dictionary.named dictionary.namedIn dictionary.entryAt dictionary.nameAt dictionary.valueAt dictionary.sizeFits dictionary.searchFrom dictionary.searchIn kdfs.faultIn
+header-few = refl

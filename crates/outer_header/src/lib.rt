@@ -8,6 +8,7 @@ ghost use mathlib.Core.Path.{_≡_};
 ghost use Rattle.outer_header.specs.Kdbx4Header as kdbx4;
 use ciphers::Cipher;
 use ciphers::Identified;
+use dictionary::Verdict;
 use fields::Place;
 use kdf_dictionary::Kdf;
 use refusals::Outcome;
@@ -59,7 +60,11 @@ fn custom_of(s: &[u8], p: Place) -> Outcome
     ensures { λ r. ⌜ r ≡ kdbx4.customOf (now (s .entry)) p ⌝ }
 {
     if p.start != 0 {
-        return dictionary::check(slices::part(s, p.start, p.length));
+        match dictionary::check(slices::part(s, p.start, p.length)) {
+            Verdict::Sound => return Outcome::Accepted,
+            Verdict::Broken(at) => return Outcome::Refused(Refusal::BrokenDictionary(p.start + at)),
+            Verdict::Repeated(at) => return Outcome::Refused(Refusal::Repeated(p.start + at)),
+        }
     }
     Outcome::Accepted
 }
@@ -99,7 +104,10 @@ fn identified(s: &[u8], f: Fields, minor: u8, end: usize, id: Identified) -> Rea
     ensures { λ r. ⌜ r ≡ kdbx4.identified (now (s .entry)) f minor end id ⌝ }
 {
     match id {
-        Identified::Unlisted => return Reading::Refused(Refusal::Unlisted),
+        Identified::Unlisted => {
+            let p = f.cipher;
+            return Reading::Refused(Refusal::Unlisted(fields::begin(p)));
+        }
         Identified::As(c) => {
             let plain = words::le::u32_at(s, f.compression.start) == 0;
             let sized = f.nonce.length == c.nonce_len();
@@ -107,11 +115,23 @@ fn identified(s: &[u8], f: Fields, minor: u8, end: usize, id: Identified) -> Rea
                 if sized {
                     return figures(s, f, minor, end, c);
                 }
-                return Reading::Refused(Refusal::WrongSize);
+                let q = f.nonce;
+                return Reading::Refused(Refusal::WrongSize(fields::begin(q)));
             }
-            return Reading::Refused(Refusal::Unlisted);
+            let p = f.compression;
+            return Reading::Refused(Refusal::Unlisted(fields::begin(p)));
         }
     }
+}
+
+// Where the end field begins, whose last byte is before `end`.
+fn end_field(end: usize) -> usize
+    ensures { λ r. ⌜ r ≡ kdbx4.endField end ⌝ }
+{
+    if end < 9 {
+        return 0;
+    }
+    end - 9
 }
 
 // A header whose end field is reached.
@@ -123,7 +143,7 @@ fn judge(s: &[u8], f: Fields, minor: u8, end: usize) -> Reading
         let id = ciphers::identify(slices::part(s, p.start, p.length));
         return identified(s, f, minor, end, id);
     }
-    Reading::Refused(Refusal::Absent)
+    Reading::Refused(Refusal::Absent(end_field(end)))
 }
 
 // The fields of a file of a known version.
@@ -142,7 +162,7 @@ pub fn read(s: &[u8]) -> Reading
 {
     if refusals::limits::file_fits(s.len()) {
         if s.len() < 12 {
-            return Reading::Refused(Refusal::CutShort);
+            return Reading::Refused(Refusal::CutShort(s.len()));
         }
         if words::le::u32_at(s, 0) == 0x9AA2_D903 {
             if words::le::u32_at(s, 4) == 0xB54B_FB67 {
@@ -153,11 +173,11 @@ pub fn read(s: &[u8]) -> Reading
                 if version == 0x4_0001 {
                     return body(s, 1);
                 }
-                return Reading::Refused(Refusal::WrongVersion);
+                return Reading::Refused(Refusal::WrongVersion(8));
             }
-            return Reading::Refused(Refusal::WrongSignature);
+            return Reading::Refused(Refusal::WrongSignature(4));
         }
-        return Reading::Refused(Refusal::WrongSignature);
+        return Reading::Refused(Refusal::WrongSignature(0));
     }
     Reading::Refused(Refusal::TooLong)
 }

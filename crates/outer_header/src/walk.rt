@@ -178,7 +178,7 @@ pub(crate) fn walk(s: &[u8]) -> Walked
                     if ends_right(s, p) {
                         return Walked::Ended(f, end);
                     }
-                    return Walked::Refused(Refusal::WrongSize);
+                    return Walked::Refused(Refusal::WrongSize(fields::begin(p)));
                 }
                 let g = put(f, id, p);
                 f = g;
@@ -187,5 +187,5 @@ pub(crate) fn walk(s: &[u8]) -> Walked
         }
         left -= 1;
     }
-    Walked::Refused(Refusal::CutShort)
+    Walked::Refused(Refusal::CutShort(s.len()))
 }

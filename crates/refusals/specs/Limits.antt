@@ -57,8 +57,18 @@ abbrev pub within : ℕ → ℕ → ℕ → Bool
 within n least most = leb least n && leb n most
 
 -- Argon2's figures: salt (in bytes), passes, memory (in bytes), lanes; and as much memory as the lanes need
+abbrev pub saltFits : ℕ → Bool
+saltFits n = within n 8 64
+
+abbrev pub passesFit : ℕ → Bool
+passesFit n = within n 1 64
+
+abbrev pub memoryFits : ℕ → Bool
+memoryFits n = within n 8_192 67_108_864
+
+abbrev pub lanesFit : ℕ → Bool
+lanesFit n = within n 1 16
+
 unfoldable pub argon2Fits : ℕ → ℕ → ℕ → ℕ → Bool
 argon2Fits salt passes memory lanes =
-    within salt 8 64
-    && (within passes 1 64
-    && (within memory 8_192 67_108_864 && (within lanes 1 16 && leb (8_192 * lanes) memory)))
+    saltFits salt && (passesFit passes && (memoryFits memory && (lanesFit lanes && leb (8_192 * lanes) memory)))

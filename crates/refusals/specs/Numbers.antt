@@ -1,5 +1,5 @@
--- Document 01, "Refusal numbers": the number of each refusal. 0 is success. Document 02, Items 3 and 6: 20
--- and 22.
+-- Document 01, "Refusal numbers": the number of each refusal. 0 is success. Document 02, Items 3 and 6: 20 and 22;
+-- Item 8: the place.
 -- Assumes nothing.
 use Prim.Native.Nat.{ℕ}
 use Rattle.refusals.specs.declared.Refusal.{Refusal}
@@ -11,16 +11,16 @@ use Rattle.refusals.specs.declared.Written.the-variants as written
 
 abbrev pub ofRefusal : Refusal → ℕ
 ofRefusal TooLong = 1
-ofRefusal CutShort = 2
-ofRefusal WrongSignature = 3
-ofRefusal WrongVersion = 4
-ofRefusal WrongSize = 5
-ofRefusal Repeated = 6
-ofRefusal UnknownField = 7
-ofRefusal Absent = 8
-ofRefusal Unlisted = 9
-ofRefusal BrokenDictionary = 10
-ofRefusal TooManyRounds = 11
+ofRefusal (CutShort at) = 2
+ofRefusal (WrongSignature at) = 3
+ofRefusal (WrongVersion at) = 4
+ofRefusal (WrongSize at) = 5
+ofRefusal (Repeated at) = 6
+ofRefusal (UnknownField at) = 7
+ofRefusal (Absent at) = 8
+ofRefusal (Unlisted at) = 9
+ofRefusal (BrokenDictionary at) = 10
+ofRefusal (TooManyRounds at) = 11
 ofRefusal HeaderHash = 12
 ofRefusal HeaderTag = 13
 ofRefusal BlockTag = 14
@@ -29,8 +29,56 @@ ofRefusal WrongPadding = 16
 ofRefusal NoRoom = 17
 ofRefusal WrongCredential = 18
 ofRefusal OutOfSequence = 19
-ofRefusal TooFewRounds = 20
-ofRefusal FigureOutside = 22
+ofRefusal (TooFewRounds at) = 20
+ofRefusal (FigureOutside at) = 22
+
+-- document 02, Item 8: the place of the fault, "the one answer beside the number that need not be zero"
+abbrev pub placeOf : Refusal → ℕ
+placeOf TooLong = 0
+placeOf (CutShort at) = at
+placeOf (WrongSignature at) = at
+placeOf (WrongVersion at) = at
+placeOf (WrongSize at) = at
+placeOf (Repeated at) = at
+placeOf (UnknownField at) = at
+placeOf (Absent at) = at
+placeOf (Unlisted at) = at
+placeOf (BrokenDictionary at) = at
+placeOf (TooManyRounds at) = at
+placeOf HeaderHash = 0
+placeOf HeaderTag = 0
+placeOf BlockTag = 0
+placeOf TrailingBytes = 0
+placeOf WrongPadding = 0
+placeOf NoRoom = 0
+placeOf WrongCredential = 0
+placeOf OutOfSequence = 0
+placeOf (TooFewRounds at) = at
+placeOf (FigureOutside at) = at
+
+-- "from writers, hash, tag and blocks it is zero"
+abbrev pub unplaced : Refusal → Refusal
+unplaced TooLong = TooLong
+unplaced (CutShort at) = CutShort 0
+unplaced (WrongSignature at) = WrongSignature 0
+unplaced (WrongVersion at) = WrongVersion 0
+unplaced (WrongSize at) = WrongSize 0
+unplaced (Repeated at) = Repeated 0
+unplaced (UnknownField at) = UnknownField 0
+unplaced (Absent at) = Absent 0
+unplaced (Unlisted at) = Unlisted 0
+unplaced (BrokenDictionary at) = BrokenDictionary 0
+unplaced (TooManyRounds at) = TooManyRounds 0
+unplaced HeaderHash = HeaderHash
+unplaced HeaderTag = HeaderTag
+unplaced BlockTag = BlockTag
+unplaced TrailingBytes = TrailingBytes
+unplaced WrongPadding = WrongPadding
+unplaced NoRoom = NoRoom
+unplaced WrongCredential = WrongCredential
+unplaced OutOfSequence = OutOfSequence
+unplaced (TooFewRounds at) = TooFewRounds 0
+unplaced (FigureOutside at) = FigureOutside 0
 
 abbrev pub ofOutcome : Outcome → ℕ
 ofOutcome Accepted = 0

@@ -1,5 +1,6 @@
 // The refusal numbers and the limits of the terminal, each once (document 01, "Refusal numbers" and "Numbers of the
-// terminal"; document 02, Item 3: 20 and the least rounds; Item 6: 22 and the bounds of Argon2's figures).
+// terminal"; document 02, Item 3: 20 and the least rounds; Item 6: 22 and the bounds of Argon2's figures; Item 8: the
+// place of a fault).
 //
 // An operation answers an `Outcome`, or an enum of its own with a case for a `Refusal`; what number a refusal has is
 // said here alone. The contracts cite specs/Numbers and specs/Limits.
@@ -8,30 +9,31 @@ ghost use Rattle.refusals.specs.Numbers as numbers;
 
 pub mod limits;
 
-// Why an operation refuses, in the order of the numbers.
+// Why an operation refuses, in the order of the numbers. 2 to 11, 20 and 22 have the place of the fault, counted from
+// the front of what a reader was handed; operations other than readers put 0 there.
 pub enum Refusal {
     // 1: an input, file to be written or message is over its limit
     TooLong,
     // 2: the file or payload ends inside a part
-    CutShort,
+    CutShort(usize),
     // 3: a signature differs
-    WrongSignature,
+    WrongSignature(usize),
     // 4: the version is not 4.0 or 4.1
-    WrongVersion,
+    WrongVersion(usize),
     // 5: a size is negative or wrong for its field; end bytes differ
-    WrongSize,
+    WrongSize(usize),
     // 6: a header field, or a name in one dictionary, is repeated
-    Repeated,
+    Repeated(usize),
     // 7: the field ID is not listed
-    UnknownField,
+    UnknownField(usize),
     // 8: a required field is absent at the end field, or an attachment index is past the last
-    Absent,
+    Absent(usize),
     // 9: the cipher, compression, KDF or inner algorithm is not listed
-    Unlisted,
+    Unlisted(usize),
     // 10: a dictionary is broken, or a KDF item is absent or of wrong type or size
-    BrokenDictionary,
+    BrokenDictionary(usize),
     // 11: the rounds are above the limit
-    TooManyRounds,
+    TooManyRounds(usize),
     // 12: the header hash differs
     HeaderHash,
     // 13: the header tag differs: wrong key, or a changed header
@@ -49,9 +51,9 @@ pub enum Refusal {
     // 19: a step after an opener's end or after a refusal that closed it; the key asked for too early
     OutOfSequence,
     // 20: the rounds of a vault are fewer than the least
-    TooFewRounds,
+    TooFewRounds(usize),
     // 22: a KDF figure is outside its bounds
-    FigureOutside,
+    FigureOutside(usize),
 }
 
 // The answer of an operation that has nothing else to say.
@@ -73,16 +75,16 @@ impl Refusal {
     {
         match self {
             Refusal::TooLong => 1,
-            Refusal::CutShort => 2,
-            Refusal::WrongSignature => 3,
-            Refusal::WrongVersion => 4,
-            Refusal::WrongSize => 5,
-            Refusal::Repeated => 6,
-            Refusal::UnknownField => 7,
-            Refusal::Absent => 8,
-            Refusal::Unlisted => 9,
-            Refusal::BrokenDictionary => 10,
-            Refusal::TooManyRounds => 11,
+            Refusal::CutShort(_) => 2,
+            Refusal::WrongSignature(_) => 3,
+            Refusal::WrongVersion(_) => 4,
+            Refusal::WrongSize(_) => 5,
+            Refusal::Repeated(_) => 6,
+            Refusal::UnknownField(_) => 7,
+            Refusal::Absent(_) => 8,
+            Refusal::Unlisted(_) => 9,
+            Refusal::BrokenDictionary(_) => 10,
+            Refusal::TooManyRounds(_) => 11,
             Refusal::HeaderHash => 12,
             Refusal::HeaderTag => 13,
             Refusal::BlockTag => 14,
@@ -91,8 +93,66 @@ impl Refusal {
             Refusal::NoRoom => 17,
             Refusal::WrongCredential => 18,
             Refusal::OutOfSequence => 19,
-            Refusal::TooFewRounds => 20,
-            Refusal::FigureOutside => 22,
+            Refusal::TooFewRounds(_) => 20,
+            Refusal::FigureOutside(_) => 22,
+        }
+    }
+
+    // The place of the fault: 0 where the refusal has none.
+    pub fn place(self) -> usize
+        ensures { λ r. ⌜ r ≡ numbers.placeOf self ⌝ }
+    {
+        match self {
+            Refusal::TooLong => 0,
+            Refusal::CutShort(at) => at,
+            Refusal::WrongSignature(at) => at,
+            Refusal::WrongVersion(at) => at,
+            Refusal::WrongSize(at) => at,
+            Refusal::Repeated(at) => at,
+            Refusal::UnknownField(at) => at,
+            Refusal::Absent(at) => at,
+            Refusal::Unlisted(at) => at,
+            Refusal::BrokenDictionary(at) => at,
+            Refusal::TooManyRounds(at) => at,
+            Refusal::HeaderHash => 0,
+            Refusal::HeaderTag => 0,
+            Refusal::BlockTag => 0,
+            Refusal::TrailingBytes => 0,
+            Refusal::WrongPadding => 0,
+            Refusal::NoRoom => 0,
+            Refusal::WrongCredential => 0,
+            Refusal::OutOfSequence => 0,
+            Refusal::TooFewRounds(at) => at,
+            Refusal::FigureOutside(at) => at,
+        }
+    }
+
+    // The refusal without its place.
+    pub fn unplaced(self) -> Refusal
+        ensures { λ r. ⌜ r ≡ numbers.unplaced self ⌝ }
+    {
+        match self {
+            Refusal::TooLong => Refusal::TooLong,
+            Refusal::CutShort(_) => Refusal::CutShort(0),
+            Refusal::WrongSignature(_) => Refusal::WrongSignature(0),
+            Refusal::WrongVersion(_) => Refusal::WrongVersion(0),
+            Refusal::WrongSize(_) => Refusal::WrongSize(0),
+            Refusal::Repeated(_) => Refusal::Repeated(0),
+            Refusal::UnknownField(_) => Refusal::UnknownField(0),
+            Refusal::Absent(_) => Refusal::Absent(0),
+            Refusal::Unlisted(_) => Refusal::Unlisted(0),
+            Refusal::BrokenDictionary(_) => Refusal::BrokenDictionary(0),
+            Refusal::TooManyRounds(_) => Refusal::TooManyRounds(0),
+            Refusal::HeaderHash => Refusal::HeaderHash,
+            Refusal::HeaderTag => Refusal::HeaderTag,
+            Refusal::BlockTag => Refusal::BlockTag,
+            Refusal::TrailingBytes => Refusal::TrailingBytes,
+            Refusal::WrongPadding => Refusal::WrongPadding,
+            Refusal::NoRoom => Refusal::NoRoom,
+            Refusal::WrongCredential => Refusal::WrongCredential,
+            Refusal::OutOfSequence => Refusal::OutOfSequence,
+            Refusal::TooFewRounds(_) => Refusal::TooFewRounds(0),
+            Refusal::FigureOutside(_) => Refusal::FigureOutside(0),
         }
     }
 }

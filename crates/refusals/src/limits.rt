@@ -136,6 +136,34 @@ fn is_within(n: u64, least: u64, most: u64) -> bool
     n <= most
 }
 
+// Whether an Argon2 salt may have so many bytes.
+pub fn salt_fits(n: usize) -> bool
+    ensures { λ r. ⌜ r ≡ limits.saltFits n ⌝ }
+{
+    is_within(n as u64, SALT_LEAST, SALT_MOST)
+}
+
+// Whether Argon2 runs so many passes.
+pub fn passes_fit(n: u64) -> bool
+    ensures { λ r. ⌜ r ≡ limits.passesFit n ⌝ }
+{
+    is_within(n, PASSES_LEAST, PASSES_MOST)
+}
+
+// Whether Argon2 runs in so many bytes of memory.
+pub fn memory_fits(n: u64) -> bool
+    ensures { λ r. ⌜ r ≡ limits.memoryFits n ⌝ }
+{
+    is_within(n, MEMORY_LEAST, MEMORY_MOST)
+}
+
+// Whether Argon2 runs in so many lanes.
+pub fn lanes_fit(n: u32) -> bool
+    ensures { λ r. ⌜ r ≡ limits.lanesFit n ⌝ }
+{
+    is_within(n as u64, LANES_LEAST, LANES_MOST)
+}
+
 // Whether the terminal runs Argon2 with such figures: the salt's bytes, the passes, the memory's bytes, the lanes.
 pub fn argon2_figures_fit(salt_len: usize, passes: u64, memory: u64, lanes: u32) -> bool
     ensures { λ r. ⌜ r ≡ limits.argon2Fits «salt_len» passes memory lanes ⌝ }

@@ -34,7 +34,7 @@ use Rattle.outer_header.specs.declared.Header.{Header}
 use Rattle.outer_header.specs.declared.Reading.the-variants as read
 use Rattle.outer_header.proofs.Laws.Accepted.{header-judged, refuses-judged, header-stands}
 use Rattle.header_writer.specs.Written.{customVerdict, headerBytes, checkedCustom, saltSized, checkedFigures, checkedSizes, checkedCipher, checked}
-use Rattle.header_writer.specs.ReadsBack.{writtenHeader}
+use Rattle.header_writer.specs.ReadsBack.{roundsItem, writtenHeader}
 use Rattle.header_writer.specs.declared.Checked.the-variants.{As, Refused}
 use Rattle.header_writer.proofs.Laws.CheckedLaws.{checked-as}
 use Rattle.header_writer.proofs.RoundTrip.{header-read-back, header-few}
@@ -42,7 +42,7 @@ use Rattle.opening.specs.Decryption.{refused}
 use Rattle.vault.specs.Vault.{startRefused, startIn, start, openedBy, openedIn}
 use Rattle.writer.specs.Written.{Figures, sizes, headerOf, checkedOf, writing}
 use Rattle.writer.proofs.Laws.Checks.{writing-refused, shown-refused}
-use Rattle.round_trip.specs.FewRounds.{Begins, Asks, FewRounds}
+use Rattle.round_trip.specs.FewRounds.{Begins, roundsAt, Asks, FewRounds}
 use Rattle.round_trip.proofs.Laws.Success.{success}
 
 least-is : roundsLeast ≡ 6_000
@@ -67,7 +67,7 @@ module _ (c : Cipher) (rounds : ℕ) (g : Figures) (a : Asks c rounds g) where
         eq-eqb (length (g .salt)) 32 (a .kdf-seed-long),
       )
 
-  checked-few : rounds < roundsLeast → checkedOf g ≡ Refused TooFewRounds
+  checked-few : rounds < roundsLeast → checkedOf g ≡ Refused (TooFewRounds 0)
   unfolding checkedFigures
   checked-few few =
       let within : rounds ≤ roundsLimit = omega (arith, rounds-some) in
@@ -83,7 +83,7 @@ module _ (c : Cipher) (rounds : ℕ) (g : Figures) (a : Asks c rounds g) where
   header-is = rw (a .aes-kdf)
 
   read-few : rounds < roundsLeast → (rest : List ℕ) → length (headerOf g c ++ rest) ≤ fileLimit
-      → header (headerOf g c ++ rest) ≡ read.Refused TooFewRounds
+      → header (headerOf g c ++ rest) ≡ read.Refused (TooFewRounds (roundsItem c))
   read-few few rest =
       rw header-is (λ f. header-few (g .minor) c (g .seed) (g .nonce) rounds (g .salt) (g .custom) rest (a .minor-le)
       (a .seed-long) (a .nonce-long) (a .kdf-seed-long) few f)
@@ -103,7 +103,7 @@ module _ (c : Cipher) (rounds : ℕ) (g : Figures) (a : Asks c rounds g) where
 
 -- a file that begins with a header of few rounds
 module _ (rounds : ℕ) (s : List ℕ) (i : Begins rounds s) (few : rounds < roundsLeast) where
-  kdf-few : kdfOf s (i .fields .kdf) ≡ asks.Refused TooFewRounds
+  kdf-few : kdfOf s (i .fields .kdf) ≡ asks.Refused (TooFewRounds (roundsAt rounds s i))
   unfolding kdfOf kdfIn uuidOf uuidIn listedAs listedIn aesKdfOf aesKdfIn
   kdf-few =
       let k = i .has-rounds in
@@ -120,18 +120,18 @@ module _ (rounds : ℕ) (s : List ℕ) (i : Begins rounds s) (few : rounds < rou
         lt-leb roundsLeast rounds few,
       )
 
-  begins-few : header s ≡ read.Refused TooFewRounds
+  begins-few : header s ≡ read.Refused (TooFewRounds (roundsAt rounds s i))
   begins-few =
       header-judged s (i .minor) (i .end) (i .fields) (i .fits) (i .long) (i .first-is) (i .second-is) (i .minor-le)
       (i .version-is) (i .walk-is)
-      ∙ refuses-judged s (i .fields) (i .minor) (i .end) (i .cipher) TooFewRounds (i .all-present) (i .cipher-is)
+      ∙ refuses-judged s (i .fields) (i .minor) (i .end) (i .cipher) (TooFewRounds (roundsAt rounds s i)) (i .all-present) (i .cipher-is)
       (i .uncompressed) (i .nonce-long) kdf-few
 
-  start-few : (t : List ℕ) → start t s ≡ startRefused TooFewRounds
+  start-few : (t : List ℕ) → start t s ≡ startRefused (TooFewRounds (roundsAt rounds s i))
   unfolding start startIn
   start-few t = rw begins-few
 
-  whole-few : (t : List ℕ) (n : ℕ) → openedIn t s n ≡ refused TooFewRounds
+  whole-few : (t : List ℕ) (n : ℕ) → openedIn t s n ≡ refused (TooFewRounds (roundsAt rounds s i))
   unfolding openedIn openedBy
   whole-few t n = rw (start-few t)
 
@@ -164,9 +164,9 @@ few-rounds =
       start-refuses = λ rounds s i l t. start-few rounds s i (omega (arith, least-is, l)) t;
       whole-refuses = λ rounds s i l t n. whole-few rounds s i (omega (arith, least-is, l)) t n;
       writer-refuses = λ c rounds g a l t b n.
-          sym (writing-refused g t b n TooFewRounds (checked-few c rounds g a (omega (arith, least-is, l))));
+          sym (writing-refused g t b n (TooFewRounds 0) (checked-few c rounds g a (omega (arith, least-is, l))));
       nothing-shown = λ c rounds g a l t b n.
-          sym (shown-refused g t b n TooFewRounds (checked-few c rounds g a (omega (arith, least-is, l))));
+          sym (shown-refused g t b n (TooFewRounds 0) (checked-few c rounds g a (omega (arith, least-is, l))));
       former-refused = λ c rounds g a l rest f. read-few c rounds g a (omega (arith, least-is, l)) rest f;
       writer-passes = λ c rounds g a l u v.
           checked-enough c rounds g a (omega (arith, least-is, l)) (omega (arith, most-is, u)) v;

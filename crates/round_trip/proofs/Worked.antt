@@ -10,7 +10,7 @@ use native.Mathlib.Omega.{arith}
 use lib.ListN.{length, take, drop, length-drop, take-append-drop}
 use lib.Seq.{length-take-le}
 use Rattle.words.specs.Endian.{le}
-use Rattle.refusals.specs.declared.Refusal.the-variants.{TooManyRounds}
+use Rattle.refusals.specs.declared.Refusal.the-variants.{CutShort, TooManyRounds}
 use Rattle.refusals.specs.Limits.{writtenBlock}
 use Rattle.refusals.proofs.Laws.Limits.{block-pieces}
 use Rattle.ciphers.specs.Ciphers.{nonceLength}
@@ -19,13 +19,14 @@ use Rattle.ciphers.specs.declared.Cipher.the-variants.{Aes256, ChaCha20}
 use Rattle.fields.specs.Fields.{given}
 use Rattle.fields.specs.declared.Place.{Place}
 use Rattle.kdf_dictionary.specs.Kdf.{saltName, roundsName, kdfBytes, kdfLength}
-use Rattle.kdf_dictionary.specs.KdfDictionary.{itemOf, placeIn, aesKdfOf}
+use Rattle.kdf_dictionary.specs.KdfDictionary.{itemOf, placeIn, faultAt, aesKdfOf}
 use Rattle.kdf_dictionary.specs.declared.writer.Figures.{Figures as KdfFigures}
 use Rattle.kdf_dictionary.specs.declared.writer.Figures.the-variants as figures
 use Rattle.kdf_dictionary.specs.declared.Kdf.the-variants as kdf
 use Rattle.kdf_dictionary.specs.declared.Reading.the-variants as asks
 use Rattle.kdf_dictionary.proofs.Laws.Layout.{length-kdfBytes}
 use Rattle.stream.proofs.Laws.Apply.{length-apply}
+use Rattle.outer_header.specs.declared.Reading.the-variants as read
 use Rattle.outer_header.proofs.Examples.{header-short, custom-negative, custom-long, rounds-most, rounds-more}
 use Rattle.header_writer.specs.Written.{headerLength}
 use Rattle.header_writer.proofs.Worked.{length-kdf, length-aes, length-chacha}
@@ -105,7 +106,7 @@ module _ (d : List ℕ) (p : Place) (long : itemOf d saltName 0x42 .length ≡ 3
   unfolding aesKdfOf
   most e = rounds-most d p (itemOf d saltName 0x42) (itemOf d roundsName 0x05) long there e
 
-  more : le 8 d (itemOf d roundsName 0x05 .start) ≡ 4_000_001 → aesKdfOf d p ≡ asks.Refused TooManyRounds
+  more : le 8 d (itemOf d roundsName 0x05 .start) ≡ 4_000_001 → aesKdfOf d p ≡ asks.Refused (TooManyRounds (faultAt d p roundsName))
   unfolding aesKdfOf
   more e = rounds-more d p (itemOf d saltName 0x42) (itemOf d roundsName 0x05) long there e
 
@@ -185,5 +186,5 @@ worked =
       read-5999 = λ c g a rest f. few-rounds .former-refused c 5_999 g a (omega arith) rest f;
       written-6000 = λ c g a v. few-rounds .writer-passes c 6_000 g a (omega arith) (omega arith) v;
       written-5999 = λ c g a t b n. few-rounds .writer-refuses c 5_999 g a (omega arith) t b n;
-      eleven = λ s e. header-short s (omega arith);
+      eleven = λ s e. header-short s (omega arith) ∙ ap (λ (n : ℕ). read.Refused (CutShort n)) e;
     }

@@ -22,8 +22,9 @@ use Rattle.ciphers.specs.Ciphers.{cipherOf, nonceLength}
 use Rattle.ciphers.specs.declared.Cipher.{Cipher}
 use Rattle.ciphers.specs.declared.Identified.the-variants as identified
 use Rattle.dictionary.specs.Dictionary.{verdict}
+use Rattle.dictionary.specs.declared.Verdict.the-variants.{Sound}
 use Rattle.kdf_dictionary.specs.Kdf.{aesKdfUuid, uuidName, saltName, roundsName}
-use Rattle.kdf_dictionary.specs.KdfDictionary.{itemOf}
+use Rattle.kdf_dictionary.specs.KdfDictionary.{itemOf, faultAt}
 use Rattle.kdf_dictionary.specs.declared.AesKdf.{AesKdf}
 use Rattle.kdf_dictionary.specs.declared.Kdf.the-variants as kdf
 use Rattle.kdf_dictionary.specs.declared.writer.Figures.the-variants as figures
@@ -33,7 +34,7 @@ use Rattle.outer_header.specs.declared.walk.Walked.the-variants as walked
 use Rattle.outer_header.specs.declared.Header.{Header}
 use Rattle.outer_header.specs.declared.Reading.the-variants as read
 use Rattle.header_writer.specs.Written.{customVerdict}
-use Rattle.header_writer.specs.ReadsBack.{writtenHeader}
+use Rattle.header_writer.specs.ReadsBack.{roundsItem, writtenHeader}
 use Rattle.header_writer.specs.declared.Checked.the-variants.{As}
 use Rattle.opening.specs.Decryption.{refused}
 use Rattle.vault.specs.Vault.{startRefused, start, openedIn}
@@ -41,7 +42,7 @@ use Rattle.writer.specs.Written.{Figures, headerOf, checkedOf, writing, shown}
 
 -- a dictionary of AES-KDF that passes every check before that of the rounds, with so many rounds
 pub record HasRounds (rounds : ℕ) (d : List ℕ) : Type 0 where
-  pub sound : verdict d ≡ Accepted
+  pub sound : verdict d ≡ Sound
   pub uuid-long : itemOf d uuidName 0x42 .length ≡ 16
   pub uuid-is : bytesAt d (itemOf d uuidName 0x42) ≡ aesKdfUuid
   pub seed-long : itemOf d saltName 0x42 .length ≡ 32
@@ -68,6 +69,10 @@ pub record Begins (rounds : ℕ) (s : List ℕ) : Type 0 where
   pub nonce-long : fields .nonce .length ≡ nonceLength cipher
   pub has-rounds : HasRounds rounds (bytesAt s (fields .kdf))
 
+-- .. where its item `R` begins: 20's place (document 02, Item 8)
+abbrev pub roundsAt : (rounds : ℕ) (s : List ℕ) → Begins rounds s → ℕ
+roundsAt rounds s i = faultAt (bytesAt s (i .fields .kdf)) (i .fields .kdf) roundsName
+
 -- figures with so many rounds of AES-KDF that pass every check of the writer before that of the rounds
 pub record Asks (c : Cipher) (rounds : ℕ) (g : Figures) : Type 0 where
   pub minor-le : g .minor ≤ 1
@@ -84,21 +89,22 @@ pub record FewRounds : Type 0 where
   pub writer-takes : (g : Figures) (t b : List ℕ) (n m rounds : ℕ) → g .kdf ≡ figures.AesKdf rounds
       → writing g t b n ≡ written.Wrote m
       → 6_000 ≤ rounds
-  -- the reader, the start and the whole opener answer 20, whatever the custom dictionary is and whatever stands behind
-  pub reader-refuses : (rounds : ℕ) (s : List ℕ) → Begins rounds s → rounds < 6_000 → header s ≡ read.Refused TooFewRounds
-  pub start-refuses : (rounds : ℕ) (s : List ℕ) → Begins rounds s → rounds < 6_000
-      → (t : List ℕ) → start t s ≡ startRefused TooFewRounds
-  pub whole-refuses : (rounds : ℕ) (s : List ℕ) → Begins rounds s → rounds < 6_000
-      → (t : List ℕ) (n : ℕ) → openedIn t s n ≡ refused TooFewRounds
+  -- the reader, the start and the whole opener answer 20 at the item `R`, whatever the custom dictionary is and whatever stands behind
+  pub reader-refuses : (rounds : ℕ) (s : List ℕ) (i : Begins rounds s) → rounds < 6_000
+      → header s ≡ read.Refused (TooFewRounds (roundsAt rounds s i))
+  pub start-refuses : (rounds : ℕ) (s : List ℕ) (i : Begins rounds s) → rounds < 6_000
+      → (t : List ℕ) → start t s ≡ startRefused (TooFewRounds (roundsAt rounds s i))
+  pub whole-refuses : (rounds : ℕ) (s : List ℕ) (i : Begins rounds s) → rounds < 6_000
+      → (t : List ℕ) (n : ℕ) → openedIn t s n ≡ refused (TooFewRounds (roundsAt rounds s i))
   -- with any custom dictionary, any payload and any room the writer answers 20, and writes nothing
   pub writer-refuses : (c : Cipher) (rounds : ℕ) (g : Figures) → Asks c rounds g → rounds < 6_000
-      → (t b : List ℕ) (n : ℕ) → writing g t b n ≡ written.Refused TooFewRounds
+      → (t b : List ℕ) (n : ℕ) → writing g t b n ≡ written.Refused (TooFewRounds 0)
   pub nothing-shown : (c : Cipher) (rounds : ℕ) (g : Figures) → Asks c rounds g → rounds < 6_000
       → (t b : List ℕ) (n : ℕ) → shown g t b n ≡ []
   -- what was written with such figures before is refused by the reader
   pub former-refused : (c : Cipher) (rounds : ℕ) (g : Figures) → Asks c rounds g → rounds < 6_000
       → (rest : List ℕ) → length (headerOf g c ++ rest) ≤ fileLimit
-      → header (headerOf g c ++ rest) ≡ read.Refused TooFewRounds
+      → header (headerOf g c ++ rest) ≡ read.Refused (TooFewRounds (roundsItem c))
   -- from 6,000 to 4,000,000 both take them
   pub writer-passes : (c : Cipher) (rounds : ℕ) (g : Figures) → Asks c rounds g → 6_000 ≤ rounds → rounds ≤ 4_000_000
       → customVerdict (g .custom) ≡ Accepted

@@ -21,7 +21,7 @@ use Rattle.fields.specs.Fields.{given}
 use Rattle.fields.specs.declared.Place.{Place}
 use Rattle.fields.specs.declared.Field.the-variants as field
 use Rattle.kdf_dictionary.specs.Kdf.{saltName, roundsName, kdfBytes}
-use Rattle.kdf_dictionary.specs.KdfDictionary.{itemOf, placeIn, aesKdfOf}
+use Rattle.kdf_dictionary.specs.KdfDictionary.{itemOf, placeIn, faultAt, aesKdfOf}
 use Rattle.kdf_dictionary.specs.declared.writer.Figures.the-variants as figures
 use Rattle.kdf_dictionary.specs.declared.Kdf.the-variants as kdf
 use Rattle.kdf_dictionary.specs.declared.Reading.the-variants as asks
@@ -29,7 +29,7 @@ use Rattle.outer_header.specs.Kdbx4Header.{seen, fieldHere, header}
 use Rattle.outer_header.specs.declared.walk.Fields.{Fields}
 use Rattle.outer_header.specs.declared.Reading.the-variants as read
 use Rattle.header_writer.specs.Written.{headerBytes, customVerdict}
-use Rattle.header_writer.specs.ReadsBack.{writtenHeader}
+use Rattle.header_writer.specs.ReadsBack.{roundsItem, writtenHeader}
 use Rattle.header_writer.specs.declared.Checked.the-variants.{As}
 use Rattle.block_stream.specs.Blocks.{blockBytes}
 use Rattle.opening.specs.declared.Keys.{Keys}
@@ -106,9 +106,9 @@ pub record WorkedNumbers : Type 0 where
       → writtens (stepAnswers k f p (n ∷ m ∷ r ∷ [])) ≡ Wrote 0 ∷ Wrote 16 ∷ Wrote 0 ∷ []
   -- "Custom dictionary field of size FFFFFFFF: 5. Of 7FFFFFFF in a short file: 2"
   pub custom-negative : (f : Fields) (s : List ℕ) (at : ℕ) → seen f 12 ≡ false → at + 5 ≤ length s → getD s at 0 ≡ 12
-      → le 4 s (at + 1) ≡ 0xFFFFFFFF → fieldHere f s at ≡ field.Refused WrongSize
+      → le 4 s (at + 1) ≡ 0xFFFFFFFF → fieldHere f s at ≡ field.Refused (WrongSize at)
   pub custom-long : (f : Fields) (s : List ℕ) (at : ℕ) → seen f 12 ≡ false → at + 5 ≤ length s → getD s at 0 ≡ 12
-      → le 4 s (at + 1) ≡ 0x7FFFFFFF → length s ≤ fileLimit → fieldHere f s at ≡ field.Refused CutShort
+      → le 4 s (at + 1) ≡ 0x7FFFFFFF → length s ≤ fileLimit → fieldHere f s at ≡ field.Refused (CutShort (length s))
   -- "Rounds 4,000,000 pass, 4,000,001 give 11", in a dictionary whose `S` has 32 bytes and whose `R` is there
   pub rounds-most : (d : List ℕ) (p : Place) → itemOf d saltName 0x42 .length ≡ 32
       → given (itemOf d roundsName 0x05) ≡ true → le 8 d (itemOf d roundsName 0x05 .start) ≡ 4_000_000
@@ -116,7 +116,7 @@ pub record WorkedNumbers : Type 0 where
       ≡ asks.Asks (kdf.AesKdf (record { seed = placeIn p (itemOf d saltName 0x42); rounds = 4_000_000 }))
   pub rounds-more : (d : List ℕ) (p : Place) → itemOf d saltName 0x42 .length ≡ 32
       → given (itemOf d roundsName 0x05) ≡ true → le 8 d (itemOf d roundsName 0x05 .start) ≡ 4_000_001
-      → aesKdfOf d p ≡ asks.Refused TooManyRounds
+      → aesKdfOf d p ≡ asks.Refused (TooManyRounds (faultAt d p roundsName))
   -- document 02, Item 3: 6,000 pass, 5,999 give 20, of the reader of a whole header and of the writer
   pub read-6000 : (c : Cipher) (g : Figures) → Asks c 6_000 g → customVerdict (g .custom) ≡ Accepted
       → (rest : List ℕ) → length (headerOf g c ++ rest) ≤ fileLimit
@@ -124,10 +124,10 @@ pub record WorkedNumbers : Type 0 where
       ≡ read.Header (writtenHeader (g .minor) c (figures.AesKdf 6_000) 32 (length (g .custom)))
   pub read-5999 : (c : Cipher) (g : Figures) → Asks c 5_999 g
       → (rest : List ℕ) → length (headerOf g c ++ rest) ≤ fileLimit
-      → header (headerOf g c ++ rest) ≡ read.Refused TooFewRounds
+      → header (headerOf g c ++ rest) ≡ read.Refused (TooFewRounds (roundsItem c))
   pub written-6000 : (c : Cipher) (g : Figures) → Asks c 6_000 g → customVerdict (g .custom) ≡ Accepted
       → checkedOf g ≡ As c
   pub written-5999 : (c : Cipher) (g : Figures) → Asks c 5_999 g
-      → (t b : List ℕ) (n : ℕ) → writing g t b n ≡ Refused TooFewRounds
+      → (t b : List ℕ) (n : ℕ) → writing g t b n ≡ Refused (TooFewRounds 0)
   -- "Eleven bytes of anything: 2"
-  pub eleven : (s : List ℕ) → length s ≡ 11 → header s ≡ read.Refused CutShort
+  pub eleven : (s : List ℕ) → length s ≡ 11 → header s ≡ read.Refused (CutShort 11)

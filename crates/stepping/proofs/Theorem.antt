@@ -55,7 +55,7 @@ Taking l = Each (λ (a : Answer). (r : Refusal) → a .written ≢ written.Refus
 data End (m : ℕ) (rs : List ℕ) (l : List Answer) (p : Phase) : Outcome → Type 0 where
   closed : p ≡ Ended → End m rs l p outcome.Accepted
   told : (r : Refusal) → Some (λ (a : Answer). a .written ≡ written.Refused r) l → End m rs l p (outcome.Refused r)
-  spent : length rs ≡ m → Taking l → p ≢ Ended → End m rs l p (outcome.Refused CutShort)
+  spent : length rs ≡ m → Taking l → p ≢ Ended → End m rs l p (outcome.Refused (CutShort 0))
 
 record Run (m : ℕ) (f : List ℕ) (o : Opener) (n : ℕ) : Type 0 where
   pub bytes-are : bytesOf (answers (stepOf f) o (rooms m f o n)) ≡ stepping m f o n .bytes
@@ -159,7 +159,7 @@ end-accepted : (m : ℕ) (rs : List ℕ) (l : List Answer) (p : Phase) (x : Outc
     → x ≡ outcome.Accepted → p ≡ Ended
 end-accepted m rs l p x (closed g) e = g
 end-accepted m rs l p x (told r s) e = absurd (accepted-not-refused _ r e refl)
-end-accepted m rs l p x (spent k t q) e = absurd (accepted-not-refused _ CutShort e refl)
+end-accepted m rs l p x (spent k t q) e = absurd (accepted-not-refused _ (CutShort 0) e refl)
 
 end-refused : (m : ℕ) (rs : List ℕ) (l : List Answer) (p : Phase) (x : Outcome) → End m rs l p x
     → (r : Refusal) → x ≡ outcome.Refused r

@@ -33,7 +33,7 @@ goingOn (written.Wrote c) Open b more = record { outcome = more .outcome; bytes 
 goingOn (written.Wrote c) Closed b more = record { outcome = more .outcome; bytes = b ++ more .bytes }
 
 unfoldable pub stepping : ℕ → List ℕ → Opener → ℕ → Ran
-stepping zero f o n = record { outcome = outcome.Refused CutShort; bytes = [] }
+stepping zero f o n = record { outcome = outcome.Refused (CutShort 0); bytes = [] }
 stepping (suc m) f o n =
     goingOn (stepOf f o n .answer .written) (stepOf f o n .next .phase) (stepOf f o n .answer .bytes)
     (stepping m f (stepOf f o n .next) (n - length (stepOf f o n .answer .bytes)))

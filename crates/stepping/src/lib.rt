@@ -38,7 +38,7 @@ fn run_steps(first: Opener, f: &[u8], out: &mut [u8]) -> Written
             }
         }
     }
-    Written::Refused(Refusal::CutShort)
+    Written::Refused(Refusal::CutShort(0))
 }
 
 // Opens a vault: the start, then the steps. The answer is how many bytes they handed over in all.

@@ -43,7 +43,7 @@ use Rattle.inner_header.specs.InnerHeader.{inner}
 use Rattle.inner_header.specs.declared.Read.{Read}
 use Rattle.inner_header.specs.declared.Read.the-variants as payload
 use Rattle.unlocking.specs.declared.Unlocked.{Unlocked}
-use Rattle.unlocking.specs.declared.Unlocked.the-variants.{Document, Refused}
+use Rattle.unlocking.specs.declared.Unlocked.the-variants.{Document, Refused, PayloadRefused}
 
 -- the answer, and the bytes that stand over the front of the output
 pub record Opened : Type 0 where
@@ -95,7 +95,7 @@ wordsNeeded (read.Header h) = wordsOf (h .kdf)
 
 -- from behind the inner header to the payload's end
 unfoldable pub documentOf : Read → ℕ → Unlocked
-documentOf (payload.Refused r) n = Refused r
+documentOf (payload.Refused r) n = PayloadRefused r
 documentOf (payload.Header i) n = Document (i .document) n
 
 -- the payload that the steps handed over, or why one was refused

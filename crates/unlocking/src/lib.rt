@@ -30,10 +30,12 @@ pub mod report;
 mod rounds;
 pub mod stack;
 
-// Where the document stands in the output, or why there is none.
+// Where the document stands in the output, or why there is none: a refusal of the inner header has its place in the
+// payload, any other in the file.
 pub enum Unlocked {
     Document(usize, usize),
     Refused(Refusal),
+    PayloadRefused(Refusal),
 }
 
 // Whether an input, where it is given, is within a PC program's limit.
@@ -51,7 +53,7 @@ fn find_document(payload: &[u8]) -> Unlocked
     ensures { λ r. ⌜ r ≡ unlocking.documentOf (kdbx4.inner (now (payload .entry))) (length (now (payload .entry))) ⌝ }
 {
     match inner_header::read_header(payload) {
-        Read::Refused(r) => return Unlocked::Refused(r),
+        Read::Refused(r) => return Unlocked::PayloadRefused(r),
         Read::Header(i) => return Unlocked::Document(i.document, payload.len()),
     }
 }

@@ -50,7 +50,7 @@ tagHolds base f n = same (take 32 (drop (n + 32) f)) (headerTag base (take n f))
 -- 64 bytes present (2), hash (12), tag (13)
 unfoldable pub startAt : List ℕ → ℕ → Keys → Begun
 startAt f n k =
-    cond (ltb (length f - n) 64) (startRefused CutShort)
+    cond (ltb (length f - n) 64) (startRefused (CutShort 0))
     (cond (hashHolds f n)
     (cond (tagHolds (k .base) f n) (begun k (n + 64)) (startRefused HeaderTag))
     (startRefused HeaderHash))

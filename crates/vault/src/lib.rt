@@ -110,7 +110,7 @@ fn check_at(f: &[u8], n: usize, k: Keys) -> Checked
     ensures { λ r. ⌜ r ≡ checked.checkedOf (kdbx4.startAt (now (f .entry)) n k) ⌝ }
 {
     if f.len() - n < 64 {
-        return refuse(Refusal::CutShort);
+        return refuse(Refusal::CutShort(0));
     }
     if hash_holds(f, n) {
         let base = k.base;

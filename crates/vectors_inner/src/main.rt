@@ -3,11 +3,11 @@
 // A row is `name form figure number digits` (the crate `vectors`). The names: `inner`, with the algorithm and the key;
 // `document`, with its place and SHA-256; `flags`, with an attachment's index and its flags byte; `attachment`, with
 // the place of its content and SHA-256; `written`, with the length and SHA-256 of what is written of a payload's own
-// parts; `write`, with the length written and all bytes of an output that was EE. A refusal has the figure 0. Every
-// index from 0 to the count is asked for, so that the last is 8. The form is the vault's name or what is wrong.
-// Standard input has a line for each case, `read FORM payload` or `write FORM algorithm key run document room`. The
-// rows of `long`, of 4,194,305 bytes, stand behind those of the lines. A payload at its limit, 16,777,216 bytes, and
-// one over it do not fit the usual stack: tests/differential runs these over the static library.
+// parts; `write`, with the length written and all bytes of an output that was EE. The figure of a refusal is its place,
+// 0 from the writer. Every index from 0 to the count is asked for, so that the last is 8. The form is the vault's name
+// or what is wrong. Standard input has a line for each case, `read FORM payload` or `write FORM algorithm key run
+// document room`. The rows of `long`, of 4,194,305 bytes, stand behind those of the lines. A payload at its limit,
+// 16,777,216 bytes, and one over it do not fit the usual stack: tests/differential runs these over the static library.
 // tools/vectors_inner.py writes stdin and stdout, with readings and hashes of its own.
 use libc::STDIN_FILENO;
 use vectors::table::field;

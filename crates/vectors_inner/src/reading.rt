@@ -16,7 +16,7 @@ pub fn line(line: &[u8]) {
 pub fn rows(name: &[u8], payload: &[u8]) {
     match inner_header::read_header(payload) {
         Read::Refused(r) => {
-            vectors::row(b"inner", name, 0, r.number(), b"");
+            vectors::row(b"inner", name, r.place(), r.number(), b"");
             attachment(name, payload, 0);
         }
         Read::Header(h) => accepted(name, payload, h),
@@ -51,7 +51,7 @@ fn attachments(name: &[u8], payload: &[u8], count: usize) {
 // The rows of an attachment.
 fn attachment(name: &[u8], payload: &[u8], index: usize) {
     match inner_header::find_attachment(payload, index) {
-        Attachment::Refused(r) => vectors::row(b"attachment", name, 0, r.number(), b""),
+        Attachment::Refused(r) => vectors::row(b"attachment", name, r.place(), r.number(), b""),
         Attachment::At(flags, p) => {
             let byte = [flags];
             vectors::row(b"flags", name, index, 0, &byte);
@@ -66,7 +66,7 @@ fn attachment(name: &[u8], payload: &[u8], index: usize) {
 fn again(name: &[u8], algorithm: u32, key: &[u8], run: &[u8], document: &[u8]) {
     let mut out = io::large_buffer();
     match inner_header::writer::write(algorithm, key, run, document, &mut out) {
-        Written::Refused(r) => vectors::row(b"written", name, 0, r.number(), b""),
+        Written::Refused(r) => vectors::row(b"written", name, r.place(), r.number(), b""),
         Written::Wrote(n) => {
             let d = sha256::hash(vectors::first(&out, n));
             let digest = d.digest;

@@ -32,10 +32,10 @@ pub fn row(name: &[u8], algorithm: u32, run: &[u8], document: &[u8]) {
     show(name, w, &out);
 }
 
-// The length written or the refusal's number, and the whole output.
+// The length written, or the refusal's place and number; and the whole output.
 fn show(name: &[u8], w: Written, out: &[u8; 64]) {
     match w {
-        Written::Refused(r) => vectors::row(b"write", name, 0, r.number(), out),
+        Written::Refused(r) => vectors::row(b"write", name, r.place(), r.number(), out),
         Written::Wrote(n) => vectors::row(b"write", name, n, 0, out),
     }
 }

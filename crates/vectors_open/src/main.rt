@@ -74,7 +74,14 @@ fn open_shown(line: &[u8], file: &[u8], password: &[u8], key_file: &[u8], memory
         &mut out,
         memory,
     ) {
-        Unlocked::Refused(why) => show_refusal(field(line, 0), why),
+        Unlocked::Refused(why) => {
+            show_name(field(line, 0));
+            report::refusal(STDOUT_FILENO, why);
+        }
+        Unlocked::PayloadRefused(why) => {
+            show_name(field(line, 0));
+            report::payload_refusal(STDOUT_FILENO, why);
+        }
         Unlocked::Document(start, end) => show_document(
             field(line, 0),
             slices::part(slices::part(&out, 0, end), start, end),
@@ -88,30 +95,29 @@ fn show_document(name: &[u8], document: &[u8]) {
     vectors::row(b"document", name, document.len(), 0, &digest);
 }
 
-// A case's name, and the line of its refusal.
-fn show_refusal(name: &[u8], why: Refusal) {
+// The name of a case that is refused, in front of its line.
+fn show_name(name: &[u8]) {
     io::write_all(STDOUT_FILENO, name);
     io::write_all(STDOUT_FILENO, b" ");
-    report::refusal(STDOUT_FILENO, why);
 }
 
 // The lines of the refusals 1 to 6.
 fn header_refusals(fd: i32) {
     report::refusal(fd, Refusal::TooLong);
-    report::refusal(fd, Refusal::CutShort);
-    report::refusal(fd, Refusal::WrongSignature);
-    report::refusal(fd, Refusal::WrongVersion);
-    report::refusal(fd, Refusal::WrongSize);
-    report::refusal(fd, Refusal::Repeated);
+    report::refusal(fd, Refusal::CutShort(0));
+    report::refusal(fd, Refusal::WrongSignature(0));
+    report::refusal(fd, Refusal::WrongVersion(0));
+    report::refusal(fd, Refusal::WrongSize(0));
+    report::refusal(fd, Refusal::Repeated(0));
 }
 
 // The lines of the refusals 7 to 12.
 fn more_header_refusals(fd: i32) {
-    report::refusal(fd, Refusal::UnknownField);
-    report::refusal(fd, Refusal::Absent);
-    report::refusal(fd, Refusal::Unlisted);
-    report::refusal(fd, Refusal::BrokenDictionary);
-    report::refusal(fd, Refusal::TooManyRounds);
+    report::refusal(fd, Refusal::UnknownField(0));
+    report::refusal(fd, Refusal::Absent(0));
+    report::refusal(fd, Refusal::Unlisted(0));
+    report::refusal(fd, Refusal::BrokenDictionary(0));
+    report::refusal(fd, Refusal::TooManyRounds(0));
     report::refusal(fd, Refusal::HeaderHash);
 }
 
@@ -124,6 +130,6 @@ fn other_refusals(fd: i32) {
     report::refusal(fd, Refusal::NoRoom);
     report::refusal(fd, Refusal::WrongCredential);
     report::refusal(fd, Refusal::OutOfSequence);
-    report::refusal(fd, Refusal::TooFewRounds);
-    report::refusal(fd, Refusal::FigureOutside);
+    report::refusal(fd, Refusal::TooFewRounds(0));
+    report::refusal(fd, Refusal::FigureOutside(0));
 }

@@ -6,6 +6,7 @@
 ghost use Prim.Native.Nat.{_<_};
 use crate::steps::started;
 use crate::steps::turns;
+use crate::whole::figure;
 use crate::whole::less;
 use crate::whole::open_in;
 use opening::Opener;
@@ -86,7 +87,6 @@ fn advance(name: &[u8], start: Opener, f: &[u8], out: &mut [u8]) {
 
 // The row of an answer, with the bytes at the front of `out` that it counts.
 fn show(kind: &[u8], name: &[u8], w: Written, out: &[u8]) {
-    let n = w.count();
-    let handed = sha256::hash(vectors::first(out, n)).digest;
-    vectors::row(kind, name, n, w.number(), &handed);
+    let handed = sha256::hash(vectors::first(out, w.count())).digest;
+    vectors::row(kind, name, figure(w), w.number(), &handed);
 }

@@ -5,10 +5,10 @@
 // A row is `name form figure number digits` (the crate `vectors`), the form a vault's name. Lent bytes are EE before
 // each call, but for a large file.
 //   whole, just, less  opened with ample room, with the payload's length, with one byte less (0 where it has none): the
-//                      count, and SHA-256 of the bytes handed over
+//                      count or the refusal's place, and SHA-256 of the bytes handed over
 //   output             after each of these three: the length lent, and SHA-256 of all 65,536 bytes of which it was the
 //                      front
-//   start              where the first block stands, and the tag base
+//   start              where the first block stands or the refusal's place, and the tag base
 //   steps              how many steps until the opening is closed or ended, the number of the last, and SHA-256 of what
 //                      each answered (crate::steps, `tell`); the lengths lent go by `room_of`
 //   handed             the bytes handed over by all steps: how many, the phase (0 open, 1 closed, 2 ended), SHA-256

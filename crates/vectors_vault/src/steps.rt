@@ -7,6 +7,7 @@ use opening::Keys;
 use opening::Opener;
 use opening::Phase;
 use opening::Stepped;
+use refusals::Outcome;
 use refusals::Written;
 use sha256::Sha256;
 
@@ -42,8 +43,22 @@ pub fn started(name: &[u8], f: &[u8], t: [u8; 32]) -> Opener {
     let next = s.next;
     let keys = next.keys;
     let base = keys.base;
-    vectors::row(b"start", name, next.at, outcome.number(), &base);
+    vectors::row(
+        b"start",
+        name,
+        start_figure(outcome, next.at),
+        outcome.number(),
+        &base,
+    );
     next
+}
+
+// The place of the first block, or that of a refusal.
+fn start_figure(o: Outcome, first: usize) -> usize {
+    match o {
+        Outcome::Accepted => first,
+        Outcome::Refused(r) => r.place(),
+    }
 }
 
 // Steps until the opening is closed or ended, 4,000 at most.

@@ -23,7 +23,7 @@ fn opened(kind: &[u8], name: &[u8], f: &[u8], t: [u8; 32], room: usize) -> usize
     let w = open_in(f, t, &mut out, room);
     let n = w.count();
     let handed = sha256::hash(vectors::first(&out, n)).digest;
-    vectors::row(kind, name, n, w.number(), &handed);
+    vectors::row(kind, name, figure(w), w.number(), &handed);
     let all = sha256::hash(&out).digest;
     vectors::row(b"output", name, room, 0, &all);
     n
@@ -35,6 +35,14 @@ pub fn open_in(f: &[u8], t: [u8; 32], out: &mut [u8], room: usize) -> Written {
         return vault::open(f, t, &mut out[..room]);
     }
     vault::open(f, t, out)
+}
+
+// An opening's count, or its refusal's place.
+pub fn figure(w: Written) -> usize {
+    match w {
+        Written::Wrote(n) => n,
+        Written::Refused(r) => r.place(),
+    }
 }
 
 // The difference of two numbers, 0 where the second is greater.

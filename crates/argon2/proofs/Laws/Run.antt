@@ -62,7 +62,7 @@ used-is i m e = ap (λ (k : ℕ). i .lanes * (4 * (k / (4 * i .lanes))) * 128) e
 
 module _ (i : Inputs) (bytes lent : ℕ) where
   pub outcome-outside : argon2Fits (length (i .salt)) (i .passes) bytes (i .lanes) ≡ false
-      → Refused FigureOutside ≡ outcome i bytes lent
+      → Refused (FigureOutside 0) ≡ outcome i bytes lent
   unfolding outcome
   outcome-outside a = rw a
 

@@ -11,9 +11,8 @@ use native.Mathlib.Omega.{arith}
 use lib.Dec.{leb}
 use lib.ListN.{length}
 use Rattle.slices.specs.Same.{same}
-use Rattle.refusals.specs.declared.Refusal.the-variants.{Repeated}
-use Rattle.refusals.specs.declared.Outcome.{Outcome}
-use Rattle.refusals.specs.declared.Outcome.the-variants.{Refused}
+use Rattle.dictionary.specs.declared.Verdict.{Verdict}
+use Rattle.dictionary.specs.declared.Verdict.the-variants as verdictIs
 use Rattle.dictionary.specs.declared.Item.{Item}
 use Rattle.dictionary.specs.declared.Entry.{Entry}
 use Rattle.dictionary.specs.declared.Entry.the-variants as entry
@@ -34,14 +33,14 @@ module _ (s : List ℕ) (at : ℕ) where
   unfolding namedIn
   namedIn-agree name (entry.Item i) f g h = ap (λ (r : Bool). cond (same (nameOf s i) name) true r) (h i refl)
   namedIn-agree name entry.End f g h = refl
-  namedIn-agree name entry.Broken f g h = refl
+  namedIn-agree name (entry.Broken b) f g h = refl
 
-  walkIn-agree : (e : Entry) (f g : ℕ → Outcome) → Agree e f g → walkIn s at e f ≡ walkIn s at e g
+  walkIn-agree : (e : Entry) (f g : ℕ → Verdict) → Agree e f g → walkIn s at e f ≡ walkIn s at e g
   unfolding walkIn
   walkIn-agree (entry.Item i) f g h =
-      ap (λ (r : Outcome). cond (named (length s) s 2 at (nameOf s i)) (Refused Repeated) r) (h i refl)
+      ap (λ (r : Verdict). cond (named (length s) s 2 at (nameOf s i)) (verdictIs.Repeated at) r) (h i refl)
   walkIn-agree entry.End f g h = refl
-  walkIn-agree entry.Broken f g h = refl
+  walkIn-agree (entry.Broken b) f g h = refl
 
   searchIn-agree : (name : List ℕ) (e : Entry) (f g : ℕ → Found) → Agree e f g
       → searchIn s name e f ≡ searchIn s name e g
@@ -49,7 +48,7 @@ module _ (s : List ℕ) (at : ℕ) where
   searchIn-agree name (entry.Item i) f g h =
       ap (λ (r : Found). cond (same (nameOf s i) name) (At (i .kind) (i .value) (i .«value_len»)) r) (h i refl)
   searchIn-agree name entry.End f g h = refl
-  searchIn-agree name entry.Broken f g h = refl
+  searchIn-agree name (entry.Broken b) f g h = refl
 
 none : (b : Bool) → cond b false false ≡ false
 none true = refl

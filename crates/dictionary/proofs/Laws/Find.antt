@@ -19,8 +19,8 @@ use lib.ListN.{length, take, drop}
 use Rattle.words.proofs.Laws.Cases.{by-bool}
 use Rattle.slices.specs.Same.{same}
 use Rattle.slices.proofs.Laws.Same.{same-true}
-use Rattle.refusals.specs.declared.Outcome.{Outcome}
-use Rattle.refusals.specs.declared.Outcome.the-variants as outcome
+use Rattle.dictionary.specs.declared.Verdict.{Verdict}
+use Rattle.dictionary.specs.declared.Verdict.the-variants as verdictIs
 use Rattle.dictionary.specs.declared.Item.{Item}
 use Rattle.dictionary.specs.declared.Entry.{Entry}
 use Rattle.dictionary.specs.declared.Entry.the-variants as entry
@@ -76,7 +76,7 @@ module _ (s name : List ℕ) where
       }))
       (λ t. rw t (h (next i)))
   searchIn-found at kind start n entry.End rest p h = λ q. absurd (absent-never kind start n q)
-  searchIn-found at kind start n entry.Broken rest p h = λ q. absurd (absent-never kind start n q)
+  searchIn-found at kind start n (entry.Broken b) rest p h = λ q. absurd (absent-never kind start n q)
 
   searchFrom-found : (k at kind start n : ℕ) → searchFrom k s at name ≡ At kind start n → IsFound s name kind start n
   unfolding searchFrom
@@ -94,7 +94,7 @@ module _ (s name : List ℕ) where
       (λ t. rw t (λ q. absurd (absent-never (i .kind) (i .value) (i .«value_len») (sym q))))
       (λ t. rw t (h (next i)))
   searchIn-absent entry.End rest more h = λ q. refl
-  searchIn-absent entry.Broken rest more h = λ q. refl
+  searchIn-absent (entry.Broken b) rest more h = λ q. refl
 
   none : (b c : Bool) → c ≡ false → cond b false c ≡ false
   none true c e = refl
@@ -109,14 +109,15 @@ module _ (s name : List ℕ) where
       (λ m r. searchFrom-absent k m stop r) q)
 
   -- an answer other than a refusal is the search's
-  findIn-accepted : (o : Outcome) (f : Found) → findIn o s name ≡ f → ((r : _) → f ≡ Refused r → ⊥)
-      → (o ≡ outcome.Accepted) × (searchFrom (length s) s 2 name ≡ f)
+  findIn-accepted : (o : Verdict) (f : Found) → findIn o s name ≡ f → ((r : _) → f ≡ Refused r → ⊥)
+      → (o ≡ verdictIs.Sound) × (searchFrom (length s) s 2 name ≡ f)
   unfolding findIn
-  findIn-accepted outcome.Accepted f p h = (refl, p)
-  findIn-accepted (outcome.Refused r) f p h = absurd (h r (sym p))
+  findIn-accepted verdictIs.Sound f p h = (refl, p)
+  findIn-accepted (verdictIs.Broken at) f p h = absurd (h _ (sym p))
+  findIn-accepted (verdictIs.Repeated at) f p h = absurd (h _ (sym p))
 
   pub find-accepted : (f : Found) → find s name ≡ f → ((r : _) → f ≡ Refused r → ⊥)
-      → (verdict s ≡ outcome.Accepted) × (searchFrom (length s) s 2 name ≡ f)
+      → (verdict s ≡ verdictIs.Sound) × (searchFrom (length s) s 2 name ≡ f)
   unfolding find
   find-accepted f p h = findIn-accepted (verdict s) f p h
 

@@ -18,12 +18,12 @@ use mathlib.Core.List.{List, [], _∷_, _++_}
 use Prim.Native.Nat.{ℕ, zero, suc, _+_, _-_, _≤_, _<_}
 use native.Mathlib.Omega.{arith}
 use native.Mathlib.Numerals.{sub-one}
-use lib.Dec.{eqb}
+use lib.Dec.{eqb, leb}
 use lib.ListN.{length}
+use borrow.Author.Tests.{le-leb, lt-leb, leb-false}
 use Rattle.words.proofs.Laws.Cases.{by-bool}
-use Rattle.refusals.specs.declared.Refusal.the-variants.{BrokenDictionary, Repeated}
-use Rattle.refusals.specs.declared.Outcome.{Outcome}
-use Rattle.refusals.specs.declared.Outcome.the-variants.{Accepted, Refused}
+use Rattle.dictionary.specs.declared.Verdict.{Verdict}
+use Rattle.dictionary.specs.declared.Verdict.the-variants as verdictIs
 use Rattle.dictionary.specs.declared.Item.{Item}
 use Rattle.dictionary.specs.declared.Entry.{Entry}
 use Rattle.dictionary.specs.declared.Entry.the-variants as entry
@@ -36,83 +36,97 @@ use Rattle.dictionary.proofs.Laws.Entry.{entryAt-past, name-from}
 use Rattle.dictionary.proofs.Laws.Enough.{next-far}
 use Rattle.dictionary.proofs.Laws.Rising.{or-swap}
 
-pub judge-more : (k : ℕ) (s ks : List ℕ) (at : ℕ) (e : Entry) → 0 < k → e ≡ entryAt s at
-    → judge k s ks at ≡ judgeIn s ks e (judge (k - 1) s)
+pub judge-more : (stop k : ℕ) (s ks : List ℕ) (at : ℕ) (e : Entry) → 0 < k → e ≡ entryAt s at
+    → judge stop k s ks at ≡ judgeIn stop s ks at e (judge stop (k - 1) s)
 unfolding judge
-judge-more zero s ks at e h p = absurd (omega arith)
-judge-more (suc k) s ks at e h p = rw (p, sub-one)
+judge-more stop zero s ks at e h p = absurd (omega arith)
+judge-more stop (suc k) s ks at e h p = rw (p, sub-one)
 
-pub met-more : (k : ℕ) (s ks : List ℕ) (at : ℕ) (e : Entry) → 0 < k → e ≡ entryAt s at
-    → met k s ks at ≡ metIn s ks e (met (k - 1) s ks)
+pub met-more : (stop k : ℕ) (s ks : List ℕ) (at : ℕ) (e : Entry) → 0 < k → e ≡ entryAt s at
+    → met stop k s ks at ≡ metIn stop s ks at e (met stop (k - 1) s ks)
 unfolding met
-met-more zero s ks at e h p = absurd (omega arith)
-met-more (suc k) s ks at e h p = rw (p, sub-one)
+met-more stop zero s ks at e h p = absurd (omega arith)
+met-more stop (suc k) s ks at e h p = rw (p, sub-one)
 
 -- one turn at an item, by whether its name is known, and at the end
-module _ (k : ℕ) (s ks : List ℕ) (at : ℕ) (h : 0 < k) where
-  pub judge-held : (i : Item) → entryAt s at ≡ entry.Item i → among (keyAt s at) ks ≡ true
-      → Refused Repeated ≡ judge k s ks at
+module _ (stop k : ℕ) (s ks : List ℕ) (at : ℕ) (h : 0 < k) where
+  pub judge-stopped : (i : Item) → entryAt s at ≡ entry.Item i → stop ≤ at
+      → verdictIs.Repeated stop ≡ judge stop k s ks at
   unfolding judgeIn
-  judge-held i p a = rw (judge-more k s ks at (entry.Item i) h (sym p), name-from s at i p, a)
+  judge-stopped i p l = rw (judge-more stop k s ks at (entry.Item i) h (sym p), le-leb stop at l)
 
-  pub judge-free : (i : Item) → entryAt s at ≡ entry.Item i → among (keyAt s at) ks ≡ false
-      → judge k s ks at ≡ judge (k - 1) s (keyAt s at ∷ ks) (next i)
+  pub judge-held : (i : Item) → entryAt s at ≡ entry.Item i → at < stop → among (keyAt s at) ks ≡ true
+      → verdictIs.Repeated at ≡ judge stop k s ks at
   unfolding judgeIn
-  judge-free i p a = rw (judge-more k s ks at (entry.Item i) h (sym p), name-from s at i p, a)
+  judge-held i p l a =
+      rw (judge-more stop k s ks at (entry.Item i) h (sym p), lt-leb stop at l, name-from s at i p, a)
 
-  pub judge-end : entryAt s at ≡ entry.End → Accepted ≡ judge k s ks at
+  pub judge-free : (i : Item) → entryAt s at ≡ entry.Item i → at < stop → among (keyAt s at) ks ≡ false
+      → judge stop k s ks at ≡ judge stop (k - 1) s (keyAt s at ∷ ks) (next i)
   unfolding judgeIn
-  judge-end p = rw (judge-more k s ks at entry.End h (sym p))
+  judge-free i p l a =
+      rw (judge-more stop k s ks at (entry.Item i) h (sym p), lt-leb stop at l, name-from s at i p, a)
 
-  pub judge-broken : entryAt s at ≡ entry.Broken → Refused BrokenDictionary ≡ judge k s ks at
+  pub judge-end : entryAt s at ≡ entry.End → verdictIs.Sound ≡ judge stop k s ks at
   unfolding judgeIn
-  judge-broken p = rw (judge-more k s ks at entry.Broken h (sym p))
+  judge-end p = rw (judge-more stop k s ks at entry.End h (sym p))
 
-  pub met-held : (i : Item) → entryAt s at ≡ entry.Item i → among (keyAt s at) ks ≡ true → true ≡ met k s ks at
+  pub judge-broken : (b : ℕ) → entryAt s at ≡ entry.Broken b → verdictIs.Broken b ≡ judge stop k s ks at
+  unfolding judgeIn
+  judge-broken b p = rw (judge-more stop k s ks at (entry.Broken b) h (sym p))
+
+  pub met-stopped : (i : Item) → entryAt s at ≡ entry.Item i → stop ≤ at → stop ≡ met stop k s ks at
   unfolding metIn
-  met-held i p a = rw (met-more k s ks at (entry.Item i) h (sym p), name-from s at i p, a)
+  met-stopped i p l = rw (met-more stop k s ks at (entry.Item i) h (sym p), le-leb stop at l)
 
-  pub met-free : (i : Item) → entryAt s at ≡ entry.Item i → among (keyAt s at) ks ≡ false
-      → met (k - 1) s ks (next i) ≡ met k s ks at
+  pub met-held : (i : Item) → entryAt s at ≡ entry.Item i → at < stop → among (keyAt s at) ks ≡ true
+      → at ≡ met stop k s ks at
   unfolding metIn
-  met-free i p a = rw (met-more k s ks at (entry.Item i) h (sym p), name-from s at i p, a)
+  met-held i p l a = rw (met-more stop k s ks at (entry.Item i) h (sym p), lt-leb stop at l, name-from s at i p, a)
 
-  pub met-end : entryAt s at ≡ entry.End → false ≡ met k s ks at
+  pub met-free : (i : Item) → entryAt s at ≡ entry.Item i → at < stop → among (keyAt s at) ks ≡ false
+      → met stop (k - 1) s ks (next i) ≡ met stop k s ks at
   unfolding metIn
-  met-end p = rw (met-more k s ks at entry.End h (sym p))
+  met-free i p l a = rw (met-more stop k s ks at (entry.Item i) h (sym p), lt-leb stop at l, name-from s at i p, a)
 
-  pub met-broken : entryAt s at ≡ entry.Broken → false ≡ met k s ks at
+  pub met-end : entryAt s at ≡ entry.End → stop ≡ met stop k s ks at
   unfolding metIn
-  met-broken p = rw (met-more k s ks at entry.Broken h (sym p))
+  met-end p = rw (met-more stop k s ks at entry.End h (sym p))
 
-judgeIn-agree : (s ks : List ℕ) (e : Entry) (f g : List ℕ → ℕ → Outcome)
+  pub met-broken : (b : ℕ) → entryAt s at ≡ entry.Broken b → stop ≡ met stop k s ks at
+  unfolding metIn
+  met-broken b p = rw (met-more stop k s ks at (entry.Broken b) h (sym p))
+
+judgeIn-agree : (stop : ℕ) (s ks : List ℕ) (at : ℕ) (e : Entry) (f g : List ℕ → ℕ → Verdict)
     → ((i : Item) (ls : List ℕ) → e ≡ entry.Item i → f ls (next i) ≡ g ls (next i))
-    → judgeIn s ks e f ≡ judgeIn s ks e g
+    → judgeIn stop s ks at e f ≡ judgeIn stop s ks at e g
 unfolding judgeIn
-judgeIn-agree s ks (entry.Item i) f g h =
-    ap (λ (r : Outcome). cond (among (keyOf (nameOf s i)) ks) (Refused Repeated) r) (h i (keyOf (nameOf s i) ∷ ks) refl)
-judgeIn-agree s ks entry.End f g h = refl
-judgeIn-agree s ks entry.Broken f g h = refl
+judgeIn-agree stop s ks at (entry.Item i) f g h =
+    ap (λ (r : Verdict). cond (leb stop at) (verdictIs.Repeated stop)
+    (cond (among (keyOf (nameOf s i)) ks) (verdictIs.Repeated at) r)) (h i (keyOf (nameOf s i) ∷ ks) refl)
+judgeIn-agree stop s ks at entry.End f g h = refl
+judgeIn-agree stop s ks at (entry.Broken b) f g h = refl
 
-pub judge-enough : (k m : ℕ) (s ks : List ℕ) (at : ℕ) → length s ≤ k + at → length s ≤ m + at
-    → judge k s ks at ≡ judge m s ks at
+pub judge-enough : (stop k m : ℕ) (s ks : List ℕ) (at : ℕ) → length s ≤ k + at → length s ≤ m + at
+    → judge stop k s ks at ≡ judge stop m s ks at
 unfolding judge judgeIn
-judge-enough zero zero s ks at h l = refl
-judge-enough zero (suc m) s ks at h l =
+judge-enough stop zero zero s ks at h l = refl
+judge-enough stop zero (suc m) s ks at h l =
     let p : length s ≤ at = omega arith in
     rw (entryAt-past s at p)
-judge-enough (suc k) zero s ks at h l =
+judge-enough stop (suc k) zero s ks at h l =
     let p : length s ≤ at = omega arith in
     rw (entryAt-past s at p)
-judge-enough (suc k) (suc m) s ks at h l =
-    judgeIn-agree s ks (entryAt s at) (judge k s) (judge m s)
+judge-enough stop (suc k) (suc m) s ks at h l =
+    judgeIn-agree stop s ks at (entryAt s at) (judge stop k s) (judge stop m s)
     (λ i ls p. let f = next-far s at i p in
-    judge-enough k m s ls (next i) (omega arith) (omega arith))
+    judge-enough stop k m s ls (next i) (omega arith) (omega arith))
 
-pub judge-past : (k : ℕ) (s ks : List ℕ) (at : ℕ) → length s ≤ at → judge k s ks at ≡ Refused BrokenDictionary
+pub judge-past : (stop k : ℕ) (s ks : List ℕ) (at : ℕ) → length s ≤ at
+    → judge stop k s ks at ≡ verdictIs.Broken 0
 unfolding judge judgeIn
-judge-past zero s ks at h = refl
-judge-past (suc k) s ks at h = rw (entryAt-past s at h)
+judge-past stop zero s ks at h = refl
+judge-past stop (suc k) s ks at h = rw (entryAt-past s at h)
 
 -- two lists with the same numbers among them
 abbrev pub Alike : List ℕ → List ℕ → Type 0
@@ -122,30 +136,31 @@ alike-cons : (k : ℕ) (ks ls : List ℕ) → Alike ks ls → Alike (k ∷ ks) (
 unfolding among
 alike-cons k ks ls h x = ap (λ (b : Bool). cond (eqb k x) true b) (h x)
 
-module _ (s : List ℕ) where
-  same-in : (ks ls : List ℕ) (e : Entry) (f : List ℕ → ℕ → Outcome) → Alike ks ls
-      → ((ps qs : List ℕ) (at : ℕ) → Alike ps qs → f ps at ≡ f qs at)
-      → judgeIn s ks e f ≡ judgeIn s ls e f
+module _ (stop : ℕ) (s : List ℕ) where
+  same-in : (ks ls : List ℕ) (at : ℕ) (e : Entry) (f : List ℕ → ℕ → Verdict) → Alike ks ls
+      → ((ps qs : List ℕ) (n : ℕ) → Alike ps qs → f ps n ≡ f qs n)
+      → judgeIn stop s ks at e f ≡ judgeIn stop s ls at e f
   unfolding judgeIn
-  same-in ks ls (entry.Item i) f h g =
-      ap₂ (λ (b : Bool) (r : Outcome). cond b (Refused Repeated) r) (h (keyOf (nameOf s i)))
+  same-in ks ls at (entry.Item i) f h g =
+      ap₂ (λ (b : Bool) (r : Verdict). cond (leb stop at) (verdictIs.Repeated stop) (cond b (verdictIs.Repeated at) r))
+      (h (keyOf (nameOf s i)))
       (g (keyOf (nameOf s i) ∷ ks) (keyOf (nameOf s i) ∷ ls) (next i) (alike-cons (keyOf (nameOf s i)) ks ls h))
-  same-in ks ls entry.End f h g = refl
-  same-in ks ls entry.Broken f h g = refl
+  same-in ks ls at entry.End f h g = refl
+  same-in ks ls at (entry.Broken b) f h g = refl
 
-  pub judge-same : (k : ℕ) (ks ls : List ℕ) (at : ℕ) → Alike ks ls → judge k s ks at ≡ judge k s ls at
+  pub judge-same : (k : ℕ) (ks ls : List ℕ) (at : ℕ) → Alike ks ls → judge stop k s ks at ≡ judge stop k s ls at
   unfolding judge
   judge-same zero ks ls at h = refl
   judge-same (suc k) ks ls at h =
-      same-in ks ls (entryAt s at) (judge k s) h (λ ps qs n g. judge-same k ps qs n g)
+      same-in ks ls at (entryAt s at) (judge stop k s) h (λ ps qs n g. judge-same k ps qs n g)
 
 -- a name that is not known, in a table that has it now
-pub judge-added : (k : ℕ) (s ks ls : List ℕ) (at : ℕ) (i : Item) → 0 < k → entryAt s at ≡ entry.Item i
-    → among (keyAt s at) ks ≡ false
+pub judge-added : (stop k : ℕ) (s ks ls : List ℕ) (at : ℕ) (i : Item) → 0 < k → entryAt s at ≡ entry.Item i
+    → at < stop → among (keyAt s at) ks ≡ false
     → Alike ls (keyAt s at ∷ ks)
-    → judge (k - 1) s ls (next i) ≡ judge k s ks at
-judge-added k s ks ls at i h p a l =
-    judge-same s (k - 1) ls (keyAt s at ∷ ks) (next i) l ∙ sym (judge-free k s ks at h i p a)
+    → judge stop (k - 1) s ls (next i) ≡ judge stop k s ks at
+judge-added stop k s ks ls at i h p u a l =
+    judge-same stop s (k - 1) ls (keyAt s at ∷ ks) (next i) l ∙ sym (judge-free stop k s ks at h i p u a)
 
 either : (a : Bool) {b c : Bool} → b ≡ c → cond a true b ≡ cond a true c
 either a e = ap (λ (b : Bool). cond a true b) e
@@ -160,72 +175,70 @@ among-append x [] ls = last (among x ls)
 among-append x (k ∷ ks) ls = either (eqb k x) (among-append x ks ls) ∙ or-swap (eqb k x) (among x ls) (among x ks)
 
 -- what a batch comes to
-pub filled-done : (s : List ℕ) (from : ℕ) (t : List ℕ) (r : Batch) (o : Outcome) → Filled s from t r → r ≡ batch.Done o
-    → o ≡ judge (length s) s [] from
+pub filled-done : (s : List ℕ) (from stop : ℕ) (t : List ℕ) (r : Batch) (o : Verdict) → Filled s from stop t r
+    → r ≡ batch.Done o
+    → o ≡ judge stop (length s) s [] from
 unfolding Filled
-filled-done s from t r o f e = subst (λ (q : Batch). Filled s from t q) e f
+filled-done s from stop t r o f e = subst (λ (q : Batch). Filled s from stop t q) e f
 
-pub filled-full : (s : List ℕ) (from : ℕ) (t : List ℕ) (r : Batch) (n next : ℕ) → Filled s from t r
+pub filled-full : (s : List ℕ) (from stop : ℕ) (t : List ℕ) (r : Batch) (n next : ℕ) → Filled s from stop t r
     → r ≡ batch.Full n next
-    → IsFull s from t n next
+    → IsFull s from stop t n next
 unfolding Filled
-filled-full s from t r n next f e = subst (λ (q : Batch). Filled s from t q) e f
+filled-full s from stop t r n next f e = subst (λ (q : Batch). Filled s from stop t q) e f
 
-never : {A : Type 0} → true ≡ false → A
-never e = let z : _≡_ {A = ℕ} 0 1 = cc in absurd (omega arith)
+-- what is met stands no earlier than the walk's place, or than `stop`
+module _ (stop : ℕ) (s ks : List ℕ) where
+  met-in-far : (low at : ℕ) (e : Entry) (g : ℕ → ℕ) → low ≤ stop → low ≤ at
+      → ((i : Item) → e ≡ entry.Item i → low ≤ g (next i)) → low ≤ metIn stop s ks at e g
+  unfolding metIn
+  met-in-far low at (entry.Item i) g h l r =
+      by-bool (leb stop at)
+      (λ t. rw t h)
+      (λ t. by-bool (among (keyOf (nameOf s i)) ks) (λ u. rw (t, u) l) (λ u. rw (t, u) (r i refl)))
+  met-in-far low at entry.End g h l r = h
+  met-in-far low at (entry.Broken b) g h l r = h
 
-module _ (s ks : List ℕ) where
-  unmet-in : (ls : List ℕ) (e : Entry) (f : List ℕ → ℕ → Outcome) (g : ℕ → Bool)
-      → ((ps : List ℕ) (at : ℕ) → g at ≡ false → f (ps ++ ks) at ≡ f ps at)
-      → metIn s ks e g ≡ false
-      → judgeIn s (ls ++ ks) e f ≡ judgeIn s ls e f
+  pub met-far : (k low at : ℕ) → low ≤ stop → low ≤ at → low ≤ met stop k s ks at
+  unfolding met
+  met-far zero low at h l = h
+  met-far (suc k) low at h l =
+      met-in-far low at (entryAt s at) (met stop k s ks) h l
+      (λ i p. let f = next-far s at i p in
+      met-far k low (next i) h (omega arith))
+
+  -- to judge with known names is to judge without them, up to the first item that has one of them
+  unmet-in : (k : ℕ) (ls : List ℕ) (at : ℕ) (e : Entry) (f : ℕ → List ℕ → ℕ → Verdict) → entryAt s at ≡ e
+      → ((ps : List ℕ) (n : ℕ) → f stop (ps ++ ks) n ≡ f (met stop k s ks n) ps n)
+      → judgeIn stop s (ls ++ ks) at e (f stop)
+      ≡ judgeIn (metIn stop s ks at e (met stop k s ks)) s ls at e (f (metIn stop s ks at e (met stop k s ks)))
   unfolding judgeIn metIn
-  unmet-in ls (entry.Item i) f g h =
-      by-bool (among (keyOf (nameOf s i)) ks)
-      (λ t. rw t (λ q. never q))
-      (λ t. rw (t, among-append (keyOf (nameOf s i)) ls ks, t) (λ q.
-      ap (λ (r : Outcome). cond (among (keyOf (nameOf s i)) ls) (Refused Repeated) r)
-      (h (keyOf (nameOf s i) ∷ ls) (next i) q)))
-  unmet-in ls entry.End f g h = λ q. refl
-  unmet-in ls entry.Broken f g h = λ q. refl
+  unmet-in k ls at (entry.Item i) f p h =
+      by-bool (leb stop at)
+      (λ t. rw (t, t))
+      (λ t. by-bool (among (keyOf (nameOf s i)) ks)
+      (λ u. rw (t, u, among-append (keyOf (nameOf s i)) ls ks, u, le-leb at at (omega arith)))
+      (λ u.
+      let far = next-far s at i p in
+      let b = leb-false stop at t in
+      let m = met-far k (at + 1) (next i) (omega arith) (omega arith) in
+      let g : at < met stop k s ks (next i) = omega arith in
+      rw (t, u, among-append (keyOf (nameOf s i)) ls ks, u, lt-leb (met stop k s ks (next i)) at g)
+      (ap (λ (r : Verdict). cond (among (keyOf (nameOf s i)) ls) (verdictIs.Repeated at) r)
+      (h (keyOf (nameOf s i) ∷ ls) (next i)))))
+  unmet-in k ls at entry.End f p h = refl
+  unmet-in k ls at (entry.Broken b) f p h = refl
 
-  unmet : (k : ℕ) (ls : List ℕ) (at : ℕ) → met k s ks at ≡ false → judge k s (ls ++ ks) at ≡ judge k s ls at
+  unmet : (k : ℕ) (ls : List ℕ) (at : ℕ) → judge stop k s (ls ++ ks) at ≡ judge (met stop k s ks at) k s ls at
   unfolding judge met
-  unmet zero ls at q = refl
-  unmet (suc k) ls at q = unmet-in ls (entryAt s at) (judge k s) (met k s ks) (λ ps n. unmet k ps n) q
+  unmet zero ls at = refl
+  unmet (suc k) ls at =
+      unmet-in k ls at (entryAt s at) (λ (n : ℕ). judge n k s) refl (λ ps n. unmet k ps n)
 
-  judge-unmet : (k : ℕ) (at : ℕ) → met k s ks at ≡ false → judge k s ks at ≡ judge k s [] at
-  judge-unmet k at q = unmet k [] at q
-
-  met-in : (ls : List ℕ) (e : Entry) (f : List ℕ → ℕ → Outcome) (g : ℕ → Bool)
-      → ((ps : List ℕ) (at : ℕ) → g at ≡ true → f (ps ++ ks) at ≡ Refused Repeated)
-      → metIn s ks e g ≡ true
-      → judgeIn s (ls ++ ks) e f ≡ Refused Repeated
-  unfolding judgeIn metIn
-  met-in ls (entry.Item i) f g h =
-      by-bool (among (keyOf (nameOf s i)) ks)
-      (λ t. rw (t, among-append (keyOf (nameOf s i)) ls ks, t) (λ q. refl))
-      (λ t. rw (t, among-append (keyOf (nameOf s i)) ls ks, t) (λ q.
-      by-bool (among (keyOf (nameOf s i)) ls)
-      (λ u. rw u)
-      (λ u. rw u (h (keyOf (nameOf s i) ∷ ls) (next i) q))))
-  met-in ls entry.End f g h = λ q. never (sym q)
-  met-in ls entry.Broken f g h = λ q. never (sym q)
-
-  is-met : (k : ℕ) (ls : List ℕ) (at : ℕ) → met k s ks at ≡ true → judge k s (ls ++ ks) at ≡ Refused Repeated
-  unfolding judge met
-  is-met zero ls at q = never (sym q)
-  is-met (suc k) ls at q = met-in ls (entryAt s at) (judge k s) (met k s ks) (λ ps n. is-met k ps n) q
-
-  judge-met : (k : ℕ) (at : ℕ) → met k s ks at ≡ true → judge k s ks at ≡ Refused Repeated
-  judge-met k at q = is-met k [] at q
-
--- a batch and its table, where a later item has a name of it, and where none has
-module _ (s : List ℕ) (from : ℕ) (t : List ℕ) (n next : ℕ) (f : IsFull s from t n next) where
-  pub full-met : (r : Bool) → r ≡ met (length s) s (held s from n t) next → r ≡ true
-      → Refused Repeated ≡ judge (length s) s [] from
-  full-met r m e = sym (judge-met s (held s from n t) (length s) next (sym m ∙ e)) ∙ f .rest
-
-  pub full-unmet : (r : Bool) → r ≡ met (length s) s (held s from n t) next → r ≡ false
-      → judge (length s) s [] next ≡ judge (length s) s [] from
-  full-unmet r m e = sym (judge-unmet s (held s from n t) (length s) next (sym m ∙ e)) ∙ f .rest
+-- a batch and its table: the judgement goes on behind it up to the first item that has a name of it
+pub full-met : (s : List ℕ) (from stop : ℕ) (t : List ℕ) (n next : ℕ) → IsFull s from stop t n next
+    → (r : ℕ) → r ≡ met stop (length s) s (held s from n t) next
+    → judge r (length s) s [] next ≡ judge stop (length s) s [] from
+full-met s from stop t n next f r m =
+    ap (λ (q : ℕ). judge q (length s) s [] next) m
+    ∙ sym (unmet stop s (held s from n t) (length s) [] next) ∙ f .rest

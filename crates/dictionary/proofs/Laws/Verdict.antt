@@ -7,15 +7,14 @@
 use mathlib.Core.Path.{_≡_, refl, sym, ap, ap₂, _∙_}
 use mathlib.Core.Bool.{Bool, true, false, cond}
 use mathlib.Core.List.{List, [], _∷_}
-use Prim.Native.Nat.{ℕ, zero, suc, _-_, _≤_}
+use Prim.Native.Nat.{ℕ, zero, suc, _-_, _≤_, _<_}
 use native.Mathlib.Omega.{arith}
 use lib.Dec.{eqb}
 use lib.ListN.{length, getD}
-use borrow.Author.Tests.{le-ltb, eq-eqb}
+use borrow.Author.Tests.{le-ltb, lt-leb, eq-eqb}
 use Rattle.words.specs.Endian.{Bytes}
-use Rattle.refusals.specs.declared.Refusal.the-variants.{Repeated}
-use Rattle.refusals.specs.declared.Outcome.{Outcome}
-use Rattle.refusals.specs.declared.Outcome.the-variants.{Refused}
+use Rattle.dictionary.specs.declared.Verdict.{Verdict}
+use Rattle.dictionary.specs.declared.Verdict.the-variants as verdictIs
 use Rattle.dictionary.specs.declared.Item.{Item}
 use Rattle.dictionary.specs.declared.Entry.{Entry}
 use Rattle.dictionary.specs.declared.Entry.the-variants as entry
@@ -80,27 +79,31 @@ module _ (s : List ℕ) (b : Bytes s) where
       regroup false true d = refl
       regroup false false d = refl
 
-  walk-in : (ks : List ℕ) (at : ℕ) (e : Entry) (f : ℕ → Outcome) (g : List ℕ → ℕ → Outcome) → entryAt s at ≡ e
+  walk-in : (ks : List ℕ) (at : ℕ) (e : Entry) (f : ℕ → Verdict) (g : List ℕ → ℕ → Verdict) → entryAt s at ≡ e
       → Split s ks at
       → ((ls : List ℕ) (n : ℕ) → Split s ls n → f n ≡ g ls n)
-      → walkIn s at e f ≡ judgeIn s ks e g
+      → walkIn s at e f ≡ judgeIn (length s) s ks at e g
   unfolding walkIn judgeIn
   walk-in ks at (entry.Item i) f g p h r =
-      ap₂ (λ (c : Bool) (o : Outcome). cond c (Refused Repeated) o)
+      let w = entryAt-within s at i p in
+      let far = next-far s at i p in
+      let l : at < length s = omega (arith, w .next-le) in
+      rw (lt-leb (length s) at l)
+      (ap₂ (λ (c : Bool) (o : Verdict). cond c (verdictIs.Repeated at) o)
       (split-here ks at (nameOf s i) h (name-bytes i))
-      (r (keyOf (nameOf s i) ∷ ks) (next i) (split-more ks at i p h))
+      (r (keyOf (nameOf s i) ∷ ks) (next i) (split-more ks at i p h)))
   walk-in ks at entry.End f g p h r = refl
-  walk-in ks at entry.Broken f g p h r = refl
+  walk-in ks at (entry.Broken b) f g p h r = refl
 
-  walk-judge : (k : ℕ) (ks : List ℕ) (at : ℕ) → Split s ks at → walk k s at ≡ judge k s ks at
+  walk-judge : (k : ℕ) (ks : List ℕ) (at : ℕ) → Split s ks at → walk k s at ≡ judge (length s) k s ks at
   unfolding walk judge
   walk-judge zero ks at h = refl
   walk-judge (suc k) ks at h =
-      walk-in ks at (entryAt s at) (walk k s) (judge k s) refl h (λ ls n g. walk-judge k ls n g)
+      walk-in ks at (entryAt s at) (walk k s) (judge (length s) k s) refl h (λ ls n g. walk-judge k ls n g)
 
-  walk-is : walk (length s) s 2 ≡ judge (length s) s [] 2
+  walk-is : walk (length s) s 2 ≡ judge (length s) (length s) s [] 2
   walk-is = walk-judge (length s) [] 2 (split-none s)
 
-  pub verdict-judge : 3 ≤ length s → getD s 1 0 ≡ 1 → judge (length s) s [] 2 ≡ verdict s
+  pub verdict-judge : 3 ≤ length s → getD s 1 0 ≡ 1 → judge (length s) (length s) s [] 2 ≡ verdict s
   unfolding verdict
   verdict-judge h e = rw (le-ltb (length s) 3 h, eq-eqb (getD s 1 0) 1 e) (sym walk-is)

@@ -2,6 +2,7 @@
 use mathlib.Core.Path.{_∙_}
 use native.Mathlib.Omega.{arith}
 use denote.Ref.{now}
+use lib.ListN.{length}
 use borrow.Author.Tests.{lt-ltb, le-ltb, ne-eqb}
 use borrow.Author.Needs.{needs}
 use Rattle.dictionary.specs.Dictionary.{verdict}
@@ -25,7 +26,7 @@ returns-3 c =
     let t = f .before .before in
     let b = t .before .before .before in
     let s = now (b .before .args .s) in
-    filled-done s 2 (f .fill .last .1 .1 .0) (f .fill .result) (o .o .given .0 .0) (f .fill .ensures) (o .o .given .1)
+    filled-done s 2 (length s) (f .fill .last .1 .1 .1 .0) (f .fill .result) (o .o .given .0 .0) (f .fill .ensures) (o .o .given .1)
     ∙ verdict-judge s (λ k. omega (arith, b .shared-slice-known .given k)) (t .before .before .if1 .left) (t .if2 .left)
 
 returns-4 : tie.Need-returns-4

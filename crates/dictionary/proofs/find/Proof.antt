@@ -10,9 +10,13 @@ returns c = rw (← c .before .before .before .check .ensures, c .before .enum-t
 
 returns-2 : tie.Need-returns-2
 unfolding find findIn
-returns-2 c = rw (← c .before .before .before .check .ensures, c .before .r .given .1)
+returns-2 c = rw (← c .before .before .before .check .ensures, c .before .at .given .1)
+
+returns-3 : tie.Need-returns-3
+unfolding find findIn
+returns-3 c = rw (← c .before .before .before .check .ensures, c .before .at2 .given .1)
 
 pub find-spec : {M : Type 1} → statement M
 find-spec =
     tie.close
-    (tie.spec (λ c κs. search needs) (λ c. search needs) (λ c κs. search needs) returns (λ c. search needs) returns-2)
+    (tie.spec (λ c κs. search needs) (λ c. search needs) (λ c κs. search needs) returns (λ c. search needs) returns-2 (λ c. search needs) returns-3)

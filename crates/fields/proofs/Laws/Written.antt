@@ -169,10 +169,10 @@ module _ (before s rest : List ℕ) where
       let k : n ≤ length (before ++ s ++ rest) - (length before + at + 5) = omega arith in
       rw (t, le-leb _ _ k, getD-inside at (omega arith), add-assoc (length before) at 5)
       (ap (shift (length before)) d))
-      (λ u. let d : field.Refused CutShort ≡ field.At id p = rw (t, u) at e in
+      (λ u. let d : field.Refused (CutShort (length s)) ≡ field.At id p = rw (t, u) at e in
       let z : _≡_ {A = ℕ} 0 1 = cc in
       absurd (omega arith)))
-      (λ t. let d : field.Refused WrongSize ≡ field.At id p = rw t at e in
+      (λ t. let d : field.Refused (WrongSize at) ≡ field.At id p = rw t at e in
       let z : _≡_ {A = ℕ} 0 1 = cc in
       absurd (omega arith))
 

@@ -7,7 +7,7 @@
 --   asked-within                                      the attachment asked for has its flags byte, within the payload
 -- Each says what the definition gives, where what is kept is known.
 -- Assumes nothing.
-use mathlib.Core.Path.{_≡_, refl, sym, ap, _∙_}
+use mathlib.Core.Path.{_≡_, refl, sym, ap, _∙_, ap₂}
 use mathlib.Core.List.{List}
 use Prim.Native.Nat.{ℕ, _+_, _-_, _≤_, _<_}
 use native.Mathlib.Omega.{arith}
@@ -25,6 +25,7 @@ use Rattle.inner_header.specs.InnerHeader.{
   Walked,
   Ended,
   Refused,
+  endField,
   fault,
   judgedBy,
   judged,
@@ -44,22 +45,24 @@ module _ (i : ℕ) (s : List ℕ) where
   judged-refused (Refused x) r e = e
 
   pub judged-faulty : (w : Walked) (t : Tally) (end : ℕ) (r : Refusal) → counted.Ended t end ≡ tallied i w
-      → outcome.Refused r ≡ fault s (t .algorithm) (t .key) → counted.Refused r ≡ tallied i (judged s w)
+      → outcome.Refused r ≡ fault s (t .algorithm) (t .key) end → counted.Refused r ≡ tallied i (judged s w)
   unfolding judged judgedBy tallied
   judged-faulty (Ended f n) t end r e g =
       let q : t ≡ tallyOf i f = cc in
-      let d : fault s (f .algorithm) (f .key) ≡ outcome.Refused r =
-      sym (g ∙ ap (λ (u : Tally). fault s (u .algorithm) (u .key)) q) in
+      let m : end ≡ n = cc in
+      let d : fault s (f .algorithm) (f .key) n ≡ outcome.Refused r =
+      sym (g ∙ ap₂ (λ (u : Tally) (x : ℕ). fault s (u .algorithm) (u .key) x) q m) in
       rw d
   judged-faulty (Refused x) t end r e g = let z : _≡_ {A = ℕ} 0 1 = cc in absurd (omega arith)
 
   pub judged-fine : (w : Walked) (t : Tally) (end : ℕ) → counted.Ended t end ≡ tallied i w
-      → outcome.Accepted ≡ fault s (t .algorithm) (t .key) → counted.Ended t end ≡ tallied i (judged s w)
+      → outcome.Accepted ≡ fault s (t .algorithm) (t .key) end → counted.Ended t end ≡ tallied i (judged s w)
   unfolding judged judgedBy tallied
   judged-fine (Ended f n) t end e g =
       let q : t ≡ tallyOf i f = cc in
-      let d : fault s (f .algorithm) (f .key) ≡ outcome.Accepted =
-      sym (g ∙ ap (λ (u : Tally). fault s (u .algorithm) (u .key)) q) in
+      let m : end ≡ n = cc in
+      let d : fault s (f .algorithm) (f .key) n ≡ outcome.Accepted =
+      sym (g ∙ ap₂ (λ (u : Tally) (x : ℕ). fault s (u .algorithm) (u .key) x) q m) in
       rw d e
   judged-fine (Refused x) t end e g = let z : _≡_ {A = ℕ} 0 1 = cc in absurd (omega arith)
 
@@ -96,12 +99,13 @@ module _ (i : ℕ) (s : List ℕ) where
   attachmentOf-shown (Refused x) t end b e l g = let z : _≡_ {A = ℕ} 0 1 = cc in absurd (omega arith)
 
   pub attachmentOf-past : (w : Walked) (t : Tally) (end : ℕ) → counted.Ended t end ≡ tallied i w
-      → t .attachments ≤ i → answer.Refused Absent ≡ attachmentOf s i w
+      → t .attachments ≤ i → answer.Refused (Absent (endField end)) ≡ attachmentOf s i w
   unfolding attachmentOf tallied
   attachmentOf-past (Ended f m) t end e l =
       let q : t ≡ tallyOf i f = cc in
       let h : length (f .attachments) ≤ i = rw q at l in
-      rw (le-ltb i (length (f .attachments)) h)
+      let d : end ≡ m = cc in
+      rw (le-ltb i (length (f .attachments)) h, d)
   attachmentOf-past (Refused x) t end e l = let z : _≡_ {A = ℕ} 0 1 = cc in absurd (omega arith)
 
   asked-of : (w : Walked) (t : Tally) (end : ℕ) → w ≡ opened s → counted.Ended t end ≡ tallied i w

@@ -103,7 +103,7 @@ judgedBy-kept s (outcome.Refused r) f end h = omega arith
 
 judged-kept : (s : List ℕ) (w : Walked) → kept s w → kept s (judged s w)
 unfolding judged
-judged-kept s (Ended f end) h = judgedBy-kept s (fault s (f .algorithm) (f .key)) f end h
+judged-kept s (Ended f end) h = judgedBy-kept s (fault s (f .algorithm) (f .key) end) f end h
 judged-kept s (Refused r) h = omega arith
 
 none-sound : (s : List ℕ) → Sound s []

@@ -58,7 +58,7 @@ walk-more zero f s at e h p = absurd (omega arith)
 walk-more (suc k) f s at e h p = rw (p, sub-one)
 
 -- nothing stands behind the end
-fieldOf-past : (a k : Place) (s : List ℕ) (at : ℕ) → length s ≤ at → fieldOf a k s at ≡ field.Refused CutShort
+fieldOf-past : (a k : Place) (s : List ℕ) (at : ℕ) → length s ≤ at → fieldOf a k s at ≡ field.Refused (CutShort (length s))
 unfolding fieldOf fieldAt
 fieldOf-past a k s at h =
     let l : length s < at + 5 = omega arith in

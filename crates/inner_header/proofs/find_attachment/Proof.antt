@@ -56,11 +56,13 @@ returns-2 c =
 returns-3 : tie.Need-returns-3
 unfolding attachment
 returns-3 c =
-    let w = c .before .before .before .before .before in
+    let q = c .before in
+    let w = q .before .before .before .before .before in
     let a = w .before .before .args in
     let s = now (a .payload) in
-    let g = c .before .before .before .t .given in
-    attachmentOf-past (a .index) s (opened s) (g .0 .0) (g .0 .1 .0) (sym (g .1) ∙ w .judge .ensures) (c .if1 .left)
+    let g = q .before .before .before .t .given in
+    rw (c .end-field .ensures)
+    (attachmentOf-past (a .index) s (opened s) (g .0 .0) (g .0 .1 .0) (sym (g .1) ∙ w .judge .ensures) (q .if1 .left))
 
 pub find-attachment-spec : {M : Type 1} → statement M
 find-attachment-spec =
@@ -74,4 +76,5 @@ find-attachment-spec =
     sub-length
     (λ c κs. search needs)
     returns-2
+    (λ c κs. search needs)
     returns-3)

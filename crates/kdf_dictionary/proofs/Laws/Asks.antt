@@ -16,12 +16,12 @@ use lib.ListN.{length, length-take}
 use borrow.Author.Tests.{leb-true, eqb-true}
 use Rattle.words.specs.Endian.{le}
 use Rattle.words.proofs.Laws.Cases.{by-bool}
-use Rattle.refusals.specs.declared.Outcome.{Outcome}
-use Rattle.refusals.specs.declared.Outcome.the-variants as outcome
 use Rattle.refusals.specs.Limits.{roundsLimit, roundsLeast, argon2Fits}
 use Rattle.fields.specs.Fields.{bytesAt, endOf, given}
 use Rattle.fields.specs.declared.Place.{Place}
 use Rattle.dictionary.specs.Dictionary.{verdict}
+use Rattle.dictionary.specs.declared.Verdict.{Verdict}
+use Rattle.dictionary.specs.declared.Verdict.the-variants.{Sound, Broken, Repeated}
 use Rattle.kdf_dictionary.specs.Kdf.{uuidName, saltName, roundsName}
 use Rattle.kdf_dictionary.specs.declared.AesKdf.{AesKdf}
 use Rattle.kdf_dictionary.specs.declared.Argon2.{Argon2}
@@ -133,10 +133,11 @@ module _ (d : List ℕ) (p : Place) (fits : length d ≤ p .length) where
   uuidIn-asked q =
       by-bool (eqb (q .length) 16) (λ t. rw t (listedIn-asked (listedAs (bytesAt d q)))) (λ t. rw t (omega arith))
 
-  kdfIn-asked : (o : Outcome) → asked p (kdfIn d p o)
+  kdfIn-asked : (o : Verdict) → asked p (kdfIn d p o)
   unfolding kdfIn uuidOf
-  kdfIn-asked (outcome.Refused r) = omega arith
-  kdfIn-asked outcome.Accepted = uuidIn-asked (itemOf d uuidName 0x42)
+  kdfIn-asked (Broken at) = omega arith
+  kdfIn-asked (Repeated at) = omega arith
+  kdfIn-asked Sound = uuidIn-asked (itemOf d uuidName 0x42)
 
 kdfOf-asked : (s : List ℕ) (p : Place) → asked p (kdfOf s p)
 unfolding kdfOf

@@ -5,7 +5,7 @@
 --   item-within, salt-within      .. so does what code finds, and Argon2's salt
 -- Not here: dictionaries themselves (crate dictionary).
 -- Assumes nothing.
-use mathlib.Core.Path.{_≡_, refl}
+use mathlib.Core.Path.{_≡_, refl, sym, _∙_}
 use mathlib.Core.List.{List}
 use Prim.Native.Nat.{ℕ, _≤_}
 use native.Mathlib.Omega.{arith}
@@ -39,3 +39,10 @@ item-within d name kind q e = rw e (itemOf-within d name kind)
 pub salt-within : (d : List ℕ) (i : Items) → i ≡ argon2Items d → endOf (i .salt) ≤ length d
 unfolding argon2Items
 salt-within d i e = rw e (itemOf-within d saltName 0x42)
+
+-- the value of what is found begins within the dictionary
+pub found-within : (d name : List ℕ) (f : Found) → f ≡ searched d name → (k start n : ℕ) → f ≡ found.At k start n
+    → start ≤ length d
+found-within d name f e k start n q =
+    let w = searchFrom-within d name (length d) 2 k start n (sym e ∙ q) in
+    omega (arith, w .0)

@@ -55,6 +55,7 @@ use Rattle.kdf_dictionary.specs.Kdf.{
 }
 use Rattle.kdf_dictionary.specs.KdfDictionary.{
   searched,
+  faultIn,
   typedIn,
   itemOf,
   isFound,
@@ -152,6 +153,10 @@ module _ (seed : List ℕ) (rounds : ℕ) (long : length seed ≡ 32) (within : 
   unfolding foundFrom same
   aes-uuid = item-found aesKdfParts uuidName 0x42 16 16 aes-sound refl
 
+  rounds-found : searched (whole aesKdfParts) roundsName ≡ found.At 0x05 42 8
+  unfolding foundFrom same leBytes
+  rounds-found = search-joined aesKdfParts roundsName aes-sound
+
   aes-rounds : itemOf (whole aesKdfParts) roundsName 0x05 ≡ record { start = 42; length = 8 }
   unfolding foundFrom same leBytes
   aes-rounds = item-found aesKdfParts roundsName 0x05 42 8 aes-sound refl
@@ -179,8 +184,8 @@ module _ (seed : List ℕ) (rounds : ℕ) (long : length seed ≡ 32) (within : 
       → kdfIn (whole aesKdfParts) p (verdict (whole aesKdfParts))
       ≡ cond (leb roundsLeast rounds)
       (read.Asks (kdf.AesKdf (record { seed = record { start = p .start + 60; length = length seed }; rounds = rounds })))
-      (read.Refused TooFewRounds)
-  unfolding kdfIn uuidOf uuidIn listedAs listedIn aesKdfOf aesKdfIn
+      (read.Refused (TooFewRounds (p .start + 32)))
+  unfolding kdfIn uuidOf uuidIn listedAs listedIn aesKdfOf aesKdfIn faultIn
   kdfOf-aesKdfParts p =
       ap (kdfIn (whole aesKdfParts) p) (verdict-joined aesKdfParts aes-sound aes-fresh)
       ∙ rw (
@@ -192,6 +197,7 @@ module _ (seed : List ℕ) (rounds : ℕ) (long : length seed ≡ 32) (within : 
         eq-eqb (length seed) 32 long,
         le-rounds,
         le-leb rounds roundsLimit within,
+        rounds-found,
       )
 
 module _ (uuid salt : List ℕ) (passes memory lanes : ℕ) (uuid-long : length uuid ≡ 16)
@@ -401,10 +407,10 @@ kdfOf-kdfBytes (figures.Argon2id passes memory lanes) salt s p h e =
     at-place s _ p (e ∙ argon2Bytes-is argon2idUuid salt passes memory lanes refl h)
     ∙ kdfOf-argon2Parts argon2idUuid salt passes memory lanes refl h p variant.Id listed-argon2id
 
--- a dictionary of AES-KDF with fewer rounds than the least
+-- a dictionary of AES-KDF with fewer rounds than the least: the item `R` begins 32 bytes behind its front
 pub kdfOf-few : (rounds : ℕ) (salt s : List ℕ) (p : Place) → length salt ≡ 32 → rounds < roundsLeast
     → bytesAt s p ≡ kdfBytes (figures.AesKdf rounds) salt
-    → kdfOf s p ≡ read.Refused TooFewRounds
+    → kdfOf s p ≡ read.Refused (TooFewRounds (p .start + 32))
 unfolding kdfBytes
 kdfOf-few rounds salt s p long less e =
     let within : rounds ≤ roundsLimit = omega (arith, rounds-some) in

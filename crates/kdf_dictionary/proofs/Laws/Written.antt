@@ -24,9 +24,9 @@ use Rattle.words.specs.Size.{int32}
 use Rattle.words.specs.declared.le.Size.the-variants.{Of}
 use Rattle.words.proofs.Laws.Endian.{length-leBytes, le-leBytes, le-drop, le-take}
 use Rattle.slices.specs.Same.{same}
-use Rattle.refusals.specs.declared.Outcome.the-variants.{Accepted}
 use Rattle.fields.specs.Fields.{fieldBytes}
 use Rattle.fields.proofs.Laws.Written.{id-written, size-written, bytesAt-written, length-fieldBytes, le-inside}
+use Rattle.dictionary.specs.declared.Verdict.the-variants.{Sound}
 use Rattle.dictionary.specs.declared.Item.{Item}
 use Rattle.dictionary.specs.declared.Entry.the-variants as entry
 use Rattle.dictionary.specs.declared.Found.{Found}
@@ -273,7 +273,7 @@ abbrev split : List Part → List Part → List ℕ
 split ds is = (0x00 ∷ 0x01 ∷ plain ds) ++ joined is
 
 walk-joined : (is ds : List Part) (k : ℕ) → AllSound ds → AllSound is → Fresh ds is → length is < k
-    → walk k (split ds is) (length (0x00 ∷ 0x01 ∷ plain ds)) ≡ Accepted
+    → walk k (split ds is) (length (0x00 ∷ 0x01 ∷ plain ds)) ≡ Sound
 unfolding AllSound joined Fresh walkIn
 walk-joined [] ds k hd h f l =
     walk-more k (split ds []) (length (0x00 ∷ 0x01 ∷ plain ds)) entry.End (omega arith)
@@ -292,7 +292,7 @@ walk-joined (i ∷ is) ds k hd h f l =
     let w : s ≡ split (ds ++ (i ∷ [])) is =
     sym (append-assoc before (bytesOf i) (joined is))
     ∙ ap (λ (x : List ℕ). (0x00 ∷ 0x01 ∷ x) ++ joined is) (sym (plain-append ds i)) in
-    let more : walk (k - 1) s (next (itemHere a i)) ≡ Accepted =
+    let more : walk (k - 1) s (next (itemHere a i)) ≡ Sound =
     ap₂ (λ (x : List ℕ) (b : ℕ). walk (k - 1) x b) w m
     ∙ walk-joined is (ds ++ (i ∷ [])) (k - 1) (sound-append ds i hd (h .0)) (h .1) (f .1) (omega arith) in
     walk-more k s a (entry.Item (itemHere a i)) (omega arith) (sym (entryAt-item before i (joined is) (h .0)))
@@ -305,7 +305,7 @@ length-joined (i ∷ is) =
     let r = length-joined is in
     rw (length-append, length-itemBytes) (omega arith)
 
-pub verdict-joined : (is : List Part) → AllSound is → Fresh [] is → verdict (0x00 ∷ 0x01 ∷ joined is) ≡ Accepted
+pub verdict-joined : (is : List Part) → AllSound is → Fresh [] is → verdict (0x00 ∷ 0x01 ∷ joined is) ≡ Sound
 unfolding verdict plain AllSound
 verdict-joined is h f =
     let l = length-joined is in

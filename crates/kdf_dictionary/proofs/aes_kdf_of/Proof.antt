@@ -15,7 +15,7 @@ use Rattle.kdf_dictionary.specs.Kdf.{saltName, roundsName}
 use Rattle.kdf_dictionary.specs.declared.Kdf.the-variants as kdf
 use Rattle.kdf_dictionary.specs.declared.Reading.the-variants.{Asks, Refused}
 use Rattle.kdf_dictionary.proofs.Laws.Items.{item-within}
-use Rattle.kdf_dictionary.specs.KdfDictionary.{itemOf, placeIn, aesKdfIn, aesKdfOf}
+use Rattle.kdf_dictionary.specs.KdfDictionary.{itemOf, placeIn, faultAt, aesKdfIn, aesKdfOf}
 use borrow.Author.Needs.{needs}
 use Rattle.kdf_dictionary.proofs.aes_kdf_of.Statement.{statement}
 use Rattle.kdf_dictionary.proofs.aes_kdf_of.Tie as tie
@@ -29,18 +29,21 @@ place-in-requires c κs =
 returns : tie.Need-returns
 unfolding aesKdfOf aesKdfIn
 returns c =
-    let r = c .before .before in
-    rw (← r .before .before .item-of .ensures, ne-eqb _ 32 (c .if1 .taken))
+    let t = c .before .before in
+    let r = t .before .before in
+    rw (← r .before .before .item-of .ensures, ne-eqb _ 32 (t .if1 .taken), c .fault-at .ensures)
 
 returns-2 : tie.Need-returns-2
 unfolding aesKdfOf aesKdfIn
 returns-2 c =
-    let r = c .before .before .before .before in
+    let t = c .before .before in
+    let r = t .before .before .before .before in
     rw (
       ← r .before .before .item-of .ensures,
       ← r .item-of2 .ensures,
-      eq-eqb _ 32 (c .before .before .if1 .left),
-      eq-eqb _ 0 (c .if2 .taken),
+      eq-eqb _ 32 (t .before .before .if1 .left),
+      eq-eqb _ 0 (t .if2 .taken),
+      c .fault-at2 .ensures,
     )
 
 -- a seed and rounds that are there: the rounds decide
@@ -50,8 +53,9 @@ decided : (d : List ℕ) (p q r : Place) (n : ℕ) → q ≡ itemOf d saltName 0
     → n ≡ le 8 d (r .start)
     → aesKdfOf d p
     ≡ cond (leb n roundsLimit)
-    (cond (leb roundsLeast n) (Asks (kdf.AesKdf (record { seed = placeIn p q; rounds = n }))) (Refused TooFewRounds))
-    (Refused TooManyRounds)
+    (cond (leb roundsLeast n) (Asks (kdf.AesKdf (record { seed = placeIn p q; rounds = n })))
+    (Refused (TooFewRounds (faultAt d p roundsName))))
+    (Refused (TooManyRounds (faultAt d p roundsName)))
 unfolding aesKdfOf aesKdfIn
 decided d p q r n s o long there e = rw (← s, ← o, eq-eqb _ 32 long, ne-eqb _ 0 there, ← e)
 
@@ -71,7 +75,8 @@ returns-3 c =
 
 returns-few : tie.Need-returns-4
 returns-few c =
-    let l = c .before in
+    let t = c .before .before in
+    let l = t .before in
     let f = l .before .before in
     let n = f .before in
     let r = n .before .before .before .before .before in
@@ -79,18 +84,21 @@ returns-few c =
       decided _ (r .before .before .before .before .before .args .p) _ _ _ (r .before .before .item-of .ensures)
           (r .item-of2 .ensures) (n .before .before .before .if1 .left) (n .before .if2 .left) (n .u64-at .ensures),
       sym (f .rounds-fit .ensures) ∙ l .before .if3 .taken,
-      sym (l .rounds-suffice .ensures) ∙ c .if4 .left,
+      sym (l .rounds-suffice .ensures) ∙ t .if4 .left,
+      c .fault-at3 .ensures,
     )
 
 returns-5 : tie.Need-returns-5
 returns-5 c =
-    let f = c .before in
+    let t = c .before .before in
+    let f = t .before in
     let n = f .before in
     let r = n .before .before .before .before .before in
     rw (
       decided _ (r .before .before .before .before .before .args .p) _ _ _ (r .before .before .item-of .ensures)
           (r .item-of2 .ensures) (n .before .before .before .if1 .left) (n .before .if2 .left) (n .u64-at .ensures),
-      sym (f .rounds-fit .ensures) ∙ c .if3 .left,
+      sym (f .rounds-fit .ensures) ∙ t .if3 .left,
+      c .fault-at4 .ensures,
     )
 
 pub aes-kdf-of-spec : {M : Type 1} → statement M
@@ -101,12 +109,20 @@ aes-kdf-of-spec =
     (λ c κs. search needs)
     (λ c. search needs)
     (λ c κs. search needs)
+    (λ c. search needs)
+    (λ c κs. search needs)
     returns
+    (λ c. search needs)
+    (λ c κs. search needs)
     returns-2
     (λ c κs. search needs)
     (λ c κs. search needs)
     (λ c κs. search needs)
     place-in-requires
     returns-3
+    (λ c. search needs)
+    (λ c κs. search needs)
     returns-few
+    (λ c. search needs)
+    (λ c κs. search needs)
     returns-5)

@@ -12,7 +12,7 @@ figures-of-requires : tie.Need-figures-of-requires
 figures-of-requires c κs =
     let k = c .before .before .before .before .before in
     let w = salt-within (now (k .before .before .args .d)) (k .argon2-items .result) (k .argon2-items .ensures) in
-    search needs
+    (search needs, search needs)
 
 returns : tie.Need-returns
 unfolding argon2In
@@ -28,19 +28,26 @@ returns c =
 returns-2 : tie.Need-returns-2
 unfolding argon2In
 returns-2 c =
-    let l = c .before in
+    let t = c .before in
+    let l = t .before in
     let f = l .before .before in
     rw (
       ← f .before .before .argon2-items .ensures,
       sym (f .is-complete .ensures) ∙ l .before .if1 .taken,
-      sym (l .is-listed .ensures) ∙ c .if2 .left,
+      sym (l .is-listed .ensures) ∙ t .if2 .left,
+      c .unlisted-at .ensures,
     )
 
 returns-3 : tie.Need-returns-3
 unfolding argon2In
 returns-3 c =
-    let f = c .before in
-    rw (← f .before .before .argon2-items .ensures, sym (f .is-complete .ensures) ∙ c .if1 .left)
+    let t = c .before in
+    let f = t .before in
+    rw (
+      ← f .before .before .argon2-items .ensures,
+      sym (f .is-complete .ensures) ∙ t .if1 .left,
+      c .incomplete-at .ensures,
+    )
 
 pub argon2-of-spec : {M : Type 1} → statement M
 argon2-of-spec =
@@ -51,5 +58,7 @@ argon2-of-spec =
     (λ c κs. search needs)
     figures-of-requires
     returns
+    (λ c κs. search needs)
     returns-2
+    (λ c κs. search needs)
     returns-3)

@@ -24,7 +24,8 @@ returns c =
 returns-2 : tie.Need-returns-2
 unfolding argon2Figures
 returns-2 c =
-    let f = c .before in
+    let t = c .before in
+    let f = t .before in
     let p = f .before in
     let m = p .before in
     let i = m .before in
@@ -32,7 +33,8 @@ returns-2 c =
       ← p .u32-at .ensures,
       ← m .u64-at2 .ensures,
       ← i .u64-at .ensures,
-      sym (f .argon2-figures-fit .ensures) ∙ c .if1 .left,
+      sym (f .argon2-figures-fit .ensures) ∙ t .if1 .left,
+      c .outside-at .ensures,
     )
 
 pub figures-of-spec : {M : Type 1} → statement M
@@ -46,4 +48,5 @@ figures-of-spec =
     (λ c κs. search needs)
     (λ c κs. search needs)
     returns
+    (λ c κs. search needs)
     returns-2)

@@ -6,7 +6,7 @@ use Rattle.kdf_dictionary.proofs.listed_of.Tie as tie
 
 returns : tie.Need-returns
 unfolding listedIn
-returns c = rw (c .enum-told .given .1)
+returns c = rw (c .before .before .enum-told .given .1, c .fault-at .ensures)
 
 returns-2 : tie.Need-returns-2
 unfolding listedIn
@@ -21,6 +21,8 @@ listed-of-spec =
     tie.close
     (tie.spec
     (λ c. search needs)
+    (λ c. search needs)
+    (λ c κs. search needs)
     returns
     (λ c. search needs)
     (λ c κs. search needs)

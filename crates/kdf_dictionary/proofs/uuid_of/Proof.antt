@@ -7,7 +7,9 @@ use Rattle.kdf_dictionary.proofs.uuid_of.Tie as tie
 
 returns : tie.Need-returns
 unfolding uuidOf uuidIn
-returns c = rw (← c .before .before .item-of .ensures, ne-eqb _ 16 (c .if1 .taken))
+returns c =
+    let t = c .before .before in
+    rw (← t .before .before .item-of .ensures, ne-eqb _ 16 (t .if1 .taken), c .fault-at .ensures)
 
 returns-2 : tie.Need-returns-2
 unfolding uuidOf uuidIn
@@ -24,6 +26,8 @@ pub uuid-of-spec : {M : Type 1} → statement M
 uuid-of-spec =
     tie.close
     (tie.spec
+    (λ c. search needs)
+    (λ c κs. search needs)
     (λ c. search needs)
     (λ c κs. search needs)
     returns

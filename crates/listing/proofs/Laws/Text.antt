@@ -34,6 +34,7 @@ use Rattle.outer_header.proofs.Frames.{header-fieldsEnd, header-frames}
 use Rattle.listing.specs.Listing.{hexLine, hexLines, fieldLines, refusalLine, textOf, text, answer, after}
 use Rattle.listing.proofs.Laws.Lines.{length-hexLine, length-hexLines}
 use Rattle.listing.proofs.Laws.Frames.{length-frames}
+use Rattle.listing.proofs.Laws.Places.{length-refusal}
 
 -- what code leans on in an accepted header
 pub record Listed (s : List ℕ) (h : Header) : Type 0 where
@@ -127,14 +128,14 @@ text-long s t = rw t
 
 length-textOf : (s : List ℕ) (r : Reading) → header s ≡ r → length s ≤ programLimit
     → length (textOf s r) ≤ 3 * 65_536
-unfolding textOf refusalLine programLimit
+unfolding textOf programLimit
 length-textOf s (read.Header h) e l = let x = header-listed s h e in omega (arith, x .length-is, x .few, x .length-le)
-length-textOf s (read.Refused r) e l = omega arith
+length-textOf s (read.Refused r) e l = omega (arith, length-refusal r)
 
 -- room for any text
 pub length-text : (s : List ℕ) → length (text s) ≤ 3 * 65_536
-unfolding text refusalLine
+unfolding text
 length-text s =
     by-bool (leb (length s) programLimit)
     (λ t. rw t (length-textOf s (header s) refl (leb-true _ _ t)))
-    (λ t. rw t (omega arith))
+    (λ t. rw t (omega (arith, length-refusal TooLong)))

@@ -41,10 +41,10 @@ use Rattle.opening.proofs.Laws.Replies.{never}
 pub closing-tooLong : Closing TooLong
 closing-tooLong = record { no-room = λ e. never (cc); no-step = λ e. never (cc) }
 
-pub closing-cutShort : Closing CutShort
+pub closing-cutShort : Closing (CutShort 0)
 closing-cutShort = record { no-room = λ e. never (cc); no-step = λ e. never (cc) }
 
-pub closing-wrongSize : Closing WrongSize
+pub closing-wrongSize : Closing (WrongSize 0)
 closing-wrongSize = record { no-room = λ e. never (cc); no-step = λ e. never (cc) }
 
 pub closing-blockTag : Closing BlockTag
@@ -78,7 +78,7 @@ length-dataAt {f = f} {p = p} {n = n} h =
 -- the tests behind a size that is not negative
 abbrev verdict : Bool → Bool → Bool → ℕ → Block
 verdict fits tagged empty n =
-    cond fits (cond tagged (cond empty block.Closing (block.Data n)) (block.Refused BlockTag)) (block.Refused CutShort)
+    cond fits (cond tagged (cond empty block.Closing (block.Data n)) (block.Refused BlockTag)) (block.Refused (CutShort 0))
 
 record Tests (fits tagged empty expected : Bool) (m n : ℕ) : Type 0 where
   fits-is : fits ≡ true
@@ -117,7 +117,7 @@ before-size base f i p b n h =
     (λ t.
     by-bool (leb (p + 36) (length f))
     (λ u. record { header-present = leb-true (p + 36) (length f) u; found-is = rw (t, u) at h })
-    (λ u. let e = rw (t, u) at h in absurd (n CutShort (sym e))))
+    (λ u. let e = rw (t, u) at h in absurd (n (CutShort 0) (sym e))))
     (λ t. let e = rw t at h in absurd (n TooLong (sym e)))
 
 judgeSize-data : (base f : List ℕ) (i p n : ℕ) (s : Size) → int32 (sizeAt f p) ≡ s → p + 36 ≤ length f

@@ -17,7 +17,8 @@ returns c =
 
 returns-2 : tie.Need-returns-2
 unfolding judged
-returns-2 c = rw (sym (c .before .is-complete .ensures) ∙ c .if1 .left)
+returns-2 c =
+    rw (sym (c .before .before .is-complete .ensures) ∙ c .before .if1 .left, c .end-field .ensures)
 
 pub judge-spec : {M : Type 1} → statement M
 judge-spec =
@@ -28,4 +29,5 @@ judge-spec =
     (λ c κs. search needs)
     (λ c κs. search needs)
     returns
+    (λ c κs. search needs)
     returns-2)

@@ -253,7 +253,7 @@ module _ (f d : List ℕ) (all : Ran) (o : Opener) (at left : ℕ) (out : List �
       ∙ ap (λ (z : Opener). joined b (stepping (left - 1) f z (length d - at - length b))) (sym i))
 
 pub going-none : (f d : List ℕ) (all : Ran) (o : Opener) (at left : ℕ) (out : List ℕ) → Going f d all o at left out
-    → left ≡ 0 → (written.Refused CutShort ≡ writtenOf all) × (out ≡ over (all .bytes) d)
+    → left ≡ 0 → (written.Refused (CutShort 0) ≡ writtenOf all) × (out ≡ over (all .bytes) d)
 unfolding stepping writtenBy
 going-none f d all o at zero out y e = (
   ap (λ (x : Outcome). writtenBy x (length (all .bytes))) (y .outcome-is),

@@ -37,7 +37,7 @@ use Rattle.inner_header.specs.declared.Read.{Read}
 use Rattle.inner_header.specs.declared.Read.the-variants as payload
 use Rattle.stepping.specs.Stepping.{ranFrom, writtenBy, writtenOf}
 use Rattle.unlocking.specs.declared.Unlocked.{Unlocked}
-use Rattle.unlocking.specs.declared.Unlocked.the-variants.{Document, Refused}
+use Rattle.unlocking.specs.declared.Unlocked.the-variants.{Document, Refused, PayloadRefused}
 use Rattle.unlocking.specs.Unlocking.{
   Opening,
   keyOf,
@@ -54,7 +54,7 @@ use Rattle.unlocking.specs.Unlocking.{
   unlocked,
 }
 
-pub document-refused : (x : Read) (n : ℕ) (r : Refusal) → x ≡ payload.Refused r → Refused r ≡ documentOf x n
+pub document-refused : (x : Read) (n : ℕ) (r : Refusal) → x ≡ payload.Refused r → PayloadRefused r ≡ documentOf x n
 unfolding documentOf
 document-refused x n r e = rw e
 

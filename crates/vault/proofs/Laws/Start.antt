@@ -79,7 +79,7 @@ startAt-begun : (f : List ℕ) (n : ℕ) (x k : Keys) (p : ℕ) → startAt f n 
 unfolding startAt
 startAt-begun f n x k p =
     by-bool (ltb (length f - n) 64)
-    (λ a. rw a (λ e. absurd (refused-never CutShort k p e)))
+    (λ a. rw a (λ e. absurd (refused-never (CutShort 0) k p e)))
     (λ a.
     by-bool (hashHolds f n)
     (λ b.

@@ -10,18 +10,18 @@ use borrow.Author.Needs.{needs}
 use Rattle.dictionary.specs.Order.{keyAt, keysAt, held, Rising}
 use Rattle.dictionary.specs.Repeats.{judge, Filled}
 use Rattle.dictionary.proofs.Laws.Entry.{entryAt-within}
-use Rattle.dictionary.proofs.Laws.Judge.{judge-held, judge-end, judge-broken, judge-added, judge-enough}
+use Rattle.dictionary.proofs.Laws.Judge.{judge-stopped, judge-held, judge-end, judge-broken, judge-added, judge-enough}
 use Rattle.dictionary.proofs.Laws.Table.{added-held, added-new}
 use Rattle.dictionary.proofs.repeats.fill.Statement.{statement}
 use Rattle.dictionary.proofs.repeats.fill.Tie as tie
 
 abbrev Inv-loop : tie.InvT-loop
-Inv-loop s from t₀ at₀ n₀ left₀ t at n left =
-    (judge left s (held s from n t) at ≡ judge (length s) s [] from) × Rising (held s from n t) × (n ≤ length t)
+Inv-loop s from stop t₀ at₀ n₀ left₀ t at n left =
+    (judge stop left s (held s from n t) at ≡ judge stop (length s) s [] from) × Rising (held s from n t) × (n ≤ length t)
     × (length t ≡ length t₀) × (from + n ≤ at) × (length s ≤ left + at)
 
 abbrev μ-loop : tie.MeasureT-loop
-μ-loop s from t₀ at₀ n₀ left₀ t at n left = left
+μ-loop s from stop t₀ at₀ n₀ left₀ t at n left = left
 
 loop-holds : tie.Need-loop-holds Inv-loop μ-loop
 unfolding keysAt Rising
@@ -33,17 +33,18 @@ returns c =
     let e = c .before .before in
     let l = e .before .before .loop in
     let a = e .before .before .before .before .before .args in
-    judge-end (l .left) (now (a .s)) (held (now (a .s)) (a .from) (l .n) (l .t)) (l .at) (search needs)
+    judge-end (a .stop) (l .left) (now (a .s)) (held (now (a .s)) (a .from) (l .n) (l .t)) (l .at) (search needs)
     (sym (e .entry-at .ensures) ∙ c .enum-told .given .1) ∙ l .inv .0
 
 returns-2 : tie.Need-returns-2 Inv-loop μ-loop
 unfolding Filled
 returns-2 c =
-    let e = c .before .before in
+    let b = c .before in
+    let e = b .before .before in
     let l = e .before .before .loop in
     let a = e .before .before .before .before .before .args in
-    judge-broken (l .left) (now (a .s)) (held (now (a .s)) (a .from) (l .n) (l .t)) (l .at) (search needs)
-    (sym (e .entry-at .ensures) ∙ c .enum-told2 .given .1) ∙ l .inv .0
+    judge-broken (a .stop) (l .left) (now (a .s)) (held (now (a .s)) (a .from) (l .n) (l .t)) (l .at) (search needs)
+    (b .b .given .0 .0) (sym (e .entry-at .ensures) ∙ b .b .given .1) ∙ l .inv .0
 
 returns-3 : tie.Need-returns-3 Inv-loop μ-loop
 unfolding Filled
@@ -51,22 +52,9 @@ returns-3 c =
     let i = c .before .before in
     let e = i .before .before in
     let l = e .before .before .loop in
-    let a = e .before .before .before .before .before in
-    let w =
-    entryAt-within (now (a .args .s)) (l .at) (i .i .given .0 .0) (sym (e .entry-at .ensures) ∙ i .i .given .1) in
-    record {
-      within = omega arith;
-      rising = l .inv .1;
-      rest =
-          judge-enough (length (now (a .args .s))) (l .left) (now (a .args .s))
-          (held (now (a .args .s)) (a .args .from) (l .n) (l .t)) (l .at) (omega arith) (omega arith)
-          ∙ l .inv .0;
-      further = omega arith;
-      next-le = omega (arith, w);
-    }
-
-sub-place : tie.Need-sub-place Inv-loop μ-loop
-sub-place c = omega arith
+    let a = e .before .before .before .before .before .args in
+    judge-stopped (a .stop) (l .left) (now (a .s)) (held (now (a .s)) (a .from) (l .n) (l .t)) (l .at) (search needs)
+    (i .i .given .0 .0) (sym (e .entry-at .ensures) ∙ i .i .given .1) (c .if1 .taken) ∙ l .inv .0
 
 returns-4 : tie.Need-returns-4 Inv-loop μ-loop
 unfolding Filled
@@ -81,7 +69,30 @@ returns-4 c =
       within = omega arith;
       rising = l .inv .1;
       rest =
-          judge-enough (length (now (a .args .s))) (l .left) (now (a .args .s))
+          judge-enough (a .args .stop) (length (now (a .args .s))) (l .left) (now (a .args .s))
+          (held (now (a .args .s)) (a .args .from) (l .n) (l .t)) (l .at) (omega arith) (omega arith)
+          ∙ l .inv .0;
+      further = omega arith;
+      next-le = omega (arith, w);
+    }
+
+sub-place : tie.Need-sub-place Inv-loop μ-loop
+sub-place c = omega arith
+
+returns-5 : tie.Need-returns-5 Inv-loop μ-loop
+unfolding Filled
+returns-5 c =
+    let i = c .before .before .before .before in
+    let e = i .before .before in
+    let l = e .before .before .loop in
+    let a = e .before .before .before .before .before in
+    let w =
+    entryAt-within (now (a .args .s)) (l .at) (i .i .given .0 .0) (sym (e .entry-at .ensures) ∙ i .i .given .1) in
+    record {
+      within = omega arith;
+      rising = l .inv .1;
+      rest =
+          judge-enough (a .args .stop) (length (now (a .args .s))) (l .left) (now (a .args .s))
           (held (now (a .args .s)) (a .args .from) (l .n) (l .t)) (l .at) (omega arith) (omega arith)
           ∙ l .inv .0;
       further = omega arith;
@@ -90,7 +101,7 @@ returns-4 c =
 
 add-requires : tie.Need-add-requires Inv-loop μ-loop
 add-requires c κs =
-    let i = c .before .before .before .before in
+    let i = c .before .before .before .before .before in
     let e = i .before .before in
     let l = e .before .before .loop in
     let a = e .before .before .before .before .before in
@@ -98,11 +109,12 @@ add-requires c κs =
     entryAt-within (now (a .args .s)) (l .at) (i .i .given .0 .0) (sym (e .entry-at .ensures) ∙ i .i .given .1) in
     (omega arith, (omega (arith, w), l .inv .1))
 
-returns-5 : tie.Need-returns-5 Inv-loop μ-loop
+returns-6 : tie.Need-returns-6 Inv-loop μ-loop
 unfolding Filled
-returns-5 c =
+returns-6 c =
     let d = c .before .before .before in
-    let i = d .before .before .before .before .before in
+    let i = d .before .before .before .before .before .before in
+    let u = d .before .before .before .before .if1 .left in
     let e = i .before .before in
     let l = e .before .before .loop in
     let a = e .before .before .before .before .before .args in
@@ -111,16 +123,16 @@ returns-5 c =
     let f =
     added-held (keyAt (now (a .s)) (a .from + (l .at - a .from))) ks
     (held (now (a .s)) (a .from) (l .n + 1) (d .add .last .1 .1 .0))
-    (d .add .result) (d .add .ensures) (c .if3 .taken) in
-    judge-held (l .left) (now (a .s)) ks (l .at) (search needs) (i .i .given .0 .0)
-    (sym (e .entry-at .ensures) ∙ i .i .given .1) (rw p at f) ∙ l .inv .0
+    (d .add .result) (d .add .ensures) (c .if4 .taken) in
+    judge-held (a .stop) (l .left) (now (a .s)) ks (l .at) (search needs) (i .i .given .0 .0)
+    (sym (e .entry-at .ensures) ∙ i .i .given .1) u (rw p at f) ∙ l .inv .0
 
 add-n : tie.Need-add-n Inv-loop μ-loop
 add-n c = omega arith
 
 add-at : tie.Need-add-at Inv-loop μ-loop
 add-at c =
-    let i = c .before .before .before .before .before .before .before .before .before in
+    let i = c .before .before .before .before .before .before .before .before .before .before in
     let e = i .before .before in
     let l = e .before .before .loop in
     let a = e .before .before .before .before .before .args in
@@ -130,7 +142,8 @@ add-at c =
 loop-again : tie.Need-loop-again Inv-loop μ-loop
 loop-again c =
     let d = c .before .before .before .before in
-    let i = d .before .before .before .before .before in
+    let i = d .before .before .before .before .before .before in
+    let u = d .before .before .before .before .if1 .left in
     let e = i .before .before in
     let l = e .before .before .loop in
     let a = e .before .before .before .before .before .args in
@@ -139,11 +152,11 @@ loop-again c =
     let ls = held s (a .from) (l .n + 1) (d .add .last .1 .1 .0) in
     let p : a .from + (l .at - a .from) ≡ l .at = omega arith in
     let f =
-    added-new (keyAt s (a .from + (l .at - a .from))) ks ls (d .add .result) (d .add .ensures) (c .before .if3 .left) in
+    added-new (keyAt s (a .from + (l .at - a .from))) ks ls (d .add .result) (d .add .ensures) (c .before .if4 .left) in
     let g = rw p at f in
     let q = sym (e .entry-at .ensures) ∙ i .i .given .1 in
     let w = entryAt-within s (l .at) (i .i .given .0 .0) q in (
-      judge-added (l .left) s ks ls (l .at) (i .i .given .0 .0) (search needs) q (g .0) (g .2) ∙ l .inv .0,
+      judge-added (a .stop) (l .left) s ks ls (l .at) (i .i .given .0 .0) (search needs) q u (g .0) (g .2) ∙ l .inv .0,
       g .1,
       omega (arith, d .add .kept .1 .1 .0),
       d .add .kept .1 .1 .0 ∙ l .inv .3,
@@ -151,9 +164,9 @@ loop-again c =
       omega (arith, w),
     )
 
-returns-6 : tie.Need-returns-6 Inv-loop μ-loop
+returns-7 : tie.Need-returns-7 Inv-loop μ-loop
 unfolding Filled judge
-returns-6 c = let z : c .before .loop .left ≡ 0 = omega arith in rw (← c .before .loop .inv .0, z)
+returns-7 c = let z : c .before .loop .left ≡ 0 = omega arith in rw (← c .before .loop .inv .0, z)
 
 pub fill-spec : {M : Type 1} → statement M
 fill-spec =
@@ -172,17 +185,19 @@ fill-spec =
     (λ c. search needs)
     (λ c. omega arith)
     returns-3
-    sub-place
     (λ c. omega arith)
     returns-4
+    sub-place
+    (λ c. omega arith)
+    returns-5
     (λ c. omega arith)
     add-requires
     (λ c. omega arith)
-    returns-5
+    returns-6
     add-n
     add-at
     (λ c. search needs)
     (λ c. search needs)
     loop-again
     (λ c. omega arith)
-    returns-6)
+    returns-7)

@@ -2,6 +2,7 @@
 use mathlib.Core.Path.{sym, ap, _∙_}
 use Rattle.inner_header.specs.Answers.{number, values}
 use Rattle.exports.proofs.Laws.{answer-figures, answer-no-figures}
+use Rattle.exports.specs.Lent.{innerPlace}
 use borrow.Author.Needs.{needs}
 use Rattle.exports.proofs.inner.kdbx4_inner.Statement.{statement}
 use Rattle.exports.proofs.inner.kdbx4_inner.Tie as tie
@@ -9,12 +10,15 @@ use Rattle.exports.proofs.inner.kdbx4_inner.Tie as tie
 returns : tie.Need-returns
 returns c =
     let e = sym (c .before .before .before .before .before .read-header .ensures) ∙ c .before .before .before .h .given .1 in
-    answer-figures _ (ap number e) (sym (ap values e))
+    let p = answer-figures _ (ap number e) (sym (ap values e)) in
+    (p .0, (sym (ap innerPlace e), p .1))
 
 returns-2 : tie.Need-returns-2
 returns-2 c =
-    let e = sym (c .before .before .before .before .read-header .ensures) ∙ c .before .before .r .given .1 in
-    answer-no-figures (c .before .before .r .given .0 .0) _ (ap number e) (c .number .ensures)
+    let q = c .before .before .before in
+    let e = sym (q .before .before .read-header .ensures) ∙ q .r .given .1 in
+    let p = answer-no-figures (q .r .given .0 .0) _ (ap number e) (c .number .ensures) in
+    (p .0, (c .before .place .ensures ∙ sym (ap innerPlace e), p .1))
 
 pub kdbx4-inner-spec : {M : Type 1} → statement M
 kdbx4-inner-spec =
@@ -25,5 +29,6 @@ kdbx4-inner-spec =
     (λ c. search needs)
     returns
     (λ c. search needs)
+    (λ c κs. search needs)
     (λ c κs. search needs)
     returns-2)

@@ -34,15 +34,16 @@ returns c =
 returns-2 : tie.Need-returns-2 Inv-loop μ-loop
 unfolding runAt runIn verdict
 returns-2 c =
-    let e = c .before .before .before in
+    let u = c .before .before in
+    let e = u .before .before in
     let l = e .before .before .before .before .loop in
     let s = now (e .before .before .before .before .before .before .args .run) in
     let b = e .before .byte-at .ensures in
-    let g = c .before .r .given in
+    let g = u .r .given in
     let m =
     runFrom-more (l .left) s (l .at) (e .field-at .result) (search needs) (search needs)
     (e .field-at .ensures ∙ ap (λ (n : ℕ). fieldAt (eqb n 3) false (AtLeast 1) s (l .at)) b) in
-    sym (ap (λ (w : Run). verdict w) (rw (g .1) at m)) ∙ l .inv
+    rw (c .unplaced .ensures) (sym (ap (λ (w : Run). verdict w) (rw (g .1) at m)) ∙ l .inv)
 
 add-at : tie.Need-add-at Inv-loop μ-loop
 unfolding runAt
@@ -87,6 +88,7 @@ check-run-spec =
     (λ c κs. search needs)
     (λ c κs. search needs)
     (λ c. search needs)
+    (λ c κs. search needs)
     returns-2
     (λ c. search needs)
     add-at

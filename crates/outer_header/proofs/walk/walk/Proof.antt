@@ -60,17 +60,19 @@ returns-2 c =
 returns-3 : tie.Need-returns-3 Inv-loop μ-loop
 unfolding walkIn
 returns-3 c =
-    let l = c .before .before .before .before .before .before .before .before .before .loop in
+    let q = c .before in
+    let l = q .before .before .before .before .before .before .before .before .before .loop in
     let s = now
-    (c .before .before .before .before .before .before .before .before .before .before .before .before .args .s) in
-    let e = c .before .before .before .before .before .before .before .field-here in
+    (q .before .before .before .before .before .before .before .before .before .before .before .before .args .s) in
+    let e = q .before .before .before .before .before .before .before .field-here in
     let m = walk-more (l .left) (l .f) s (l .at) (e .result) (search needs) (e .ensures) in
     sym (rw (
-      c .before .before .before .before .before .id .given .1,
-      eq-eqb _ 0 (c .before .before .if1 .taken),
+      q .before .before .before .before .before .id .given .1,
+      eq-eqb _ 0 (q .before .before .if1 .taken),
       ←
-          c .before .ends-right .ensures,
-      c .if2 .left,
+          q .before .ends-right .ensures,
+      q .if2 .left,
+      ← c .begin .ensures,
     ) at m) ∙ l .inv
 
 loop-again : tie.Need-loop-again Inv-loop μ-loop
@@ -105,6 +107,7 @@ walk-spec =
     add-end
     (λ c κs. search needs)
     returns-2
+    (λ c κs. search needs)
     returns-3
     (λ c κs. search needs)
     (λ c. search needs)
