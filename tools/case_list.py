@@ -1,7 +1,9 @@
 """What the scripts of tests/replay's cases share: the list of cases, and the parts of files."""
 import json
 
+import inner_model
 from digests import must
+from header_model import FILE_LIMIT, read_header, refusal, sound_items
 from vectors_writer import AES, CHACHA20, le
 
 LARGE = 2**64 - 1
@@ -21,6 +23,34 @@ def shown(value):
     return [shown(part) for part in value] if isinstance(value, list) else value
 
 
+def header_refusal(data, **_):
+    return refusal(read_header, data, FILE_LIMIT)
+
+
+def dictionary_refusal(data, **_):
+    return refusal(sound_items, data)
+
+
+# The readers, whose refusals have a place, and what the models answer. Those of a file answer for its header alone.
+READERS = {
+    "header": header_refusal,
+    "open": header_refusal,
+    "steps": header_refusal,
+    "dict": dictionary_refusal,
+    "lookup": dictionary_refusal,
+    "inner": lambda data: refusal(inner_model.read, data),
+    "attachment": lambda data, index: refusal(inner_model.attachment, data, index),
+}
+
+
+def check_place(op, name, no, place, fields):
+    """Compares a reader's answer with the model's. Behind a sound header a refusal of a file has the place 0."""
+    data = fields["data"]
+    said = READERS[op](**fields | {"data": bytes(data["zeros"]) if isinstance(data, dict) else data})
+    due = (no, 0) if said == (0, 0) and op in ("open", "steps") else said
+    must((no, place) == due, (op, name, no, place, said))
+
+
 class Cases:
     def __init__(self):
         self.requests, self.answers, self.names = [], [], set()
@@ -30,12 +60,21 @@ class Cases:
         self.answers.append(json.dumps(shown(answer)))
 
     def add(self, op, name, answer, /, **fields):
-        """A case; its answer is a number, or what is answered beside 0."""
+        """A case; its answer is a number, perhaps with a reader's place, or what is answered beside 0."""
         name = f"{op} {name}"
         must(name not in self.names, name)
         self.names.add(name)
-        answer = {"no": answer} if isinstance(answer, int) else {"no": 0} | answer
-        self.line(json.dumps(shown({"case": name, "op": op} | fields)), answer)
+        no, place, more = 0, 0, {}
+        if isinstance(answer, dict):
+            more = answer
+        elif isinstance(answer, tuple):
+            no, place = answer
+        else:
+            no = answer
+        if op in READERS:
+            check_place(op, name, no, place, fields)
+            more = more if no == 0 else {"place": place}
+        self.line(json.dumps(shown({"case": name, "op": op} | fields)), {"no": no} | more)
 
     def error(self, text):
         """A line that the library cannot be asked. tests/replay takes any words for the reason."""

@@ -1,11 +1,11 @@
 """Cases of Argon2 vaults (document 02, Item 6): headers, their listing, runs, and vaults opened and written.
 
-The numbers, and the dictionary in the listing, are told by hand, from document 02. T is that of the package
+The numbers, places and the dictionary in the listing are told by hand, from document 02. T is that of the package
 cryptography, which is OpenSSL and gives RFC 9106's tags here, or a manifest's; payloads of other programs' vaults are
 decrypted by it. Files to be written are joined here.
 """
 from case_list import LARGE, NAMES, NONCE, NONCES, ROUNDS, SEED, T
-from cases_headers import FRONT, figures, header, kdf
+from cases_headers import FRONT, figures, header, kdf, place_of
 from cases_vaults import block, ciphertext, no_step, steps_of, tag_of
 from cryptography.hazmat.primitives.kdf.argon2 import Argon2d, Argon2id
 from digests import must, sha256
@@ -57,40 +57,52 @@ LISTING = """\
 00
 00040000000D0A0D0A
 """
-# Dictionaries that are refused, with the number.
+SECRET, ASSOCIATED = item(0x42, b"K", b""), item(0x42, b"A", b"")
+# Dictionaries that are refused, with the number and the place in the worked header. The dictionary's value begins at
+# 101 there, its items stand at 103, 133, 151, 169, 183 and 225, and what is more at 239.
 WRONG = {
-    "V absent": (10, argon2(items_={"V": None})),
-    "S absent": (10, argon2(items_={"S": None})),
-    "I absent": (10, argon2(items_={"I": None})),
-    "M absent": (10, argon2(items_={"M": None})),
-    "P absent": (10, argon2(items_={"P": None})),
-    "V a UInt64": (10, argon2(items_={"V": item(0x05, b"V", le(0x13, 8))})),
-    "S a string": (10, argon2(items_={"S": item(0x18, b"S", SOUND["S"])})),
-    "I an Int64": (10, argon2(items_={"I": item(0x0D, b"I", le(2, 8))})),
-    "M a UInt32": (10, argon2(items_={"M": item(0x04, b"M", le(1_048_576, 4))})),
-    "P an Int32": (10, argon2(items_={"P": item(0x0C, b"P", le(2, 4))})),
-    "P absent, V 0x10, K, no salt": (10, argon2(items_={"P": None}, V=0x10, S=b"", more=item(0x42, b"K", b""))),
-    "the items of AES-KDF": (10, kdf(uuid=IDENTIFIERS["argon2d"])),
-    "AES-KDF's identifier": (10, argon2(items_={"$UUID": item(0x42, b"$UUID", AES_KDF)})),
-    "S twice": (6, argon2(more=item(0x42, b"S", b""))),
-    "V 0x10": (9, argon2(V=0x10)),
-    "V 0x113": (9, argon2(V=0x113)),
-    "K empty": (9, argon2(more=item(0x42, b"K", b""))),
-    "A a Bool": (9, argon2(more=item(0x08, b"A", b"\0"))),
-    "V 0x10, I 0": (9, argon2(V=0x10, I=0)),
-    "A, salt of 7": (9, argon2(S=bytes(7), more=item(0x42, b"A", b"a"))),
-    "salt of 7": (22, argon2(S=bytes(7))),
-    "salt of 65": (22, argon2(S=bytes(65))),
-    "I 0": (22, argon2(I=0)),
-    "I 65": (22, argon2(I=65)),
-    "I 2^32+1": (22, argon2(I=2**32 + 1)),
-    "M 8191": (22, argon2(M=LEAST_MEMORY - 1, P=1)),
-    "M over": (22, argon2(M=MOST_MEMORY + 1)),
-    "M 2^32+2^20": (22, argon2(M=2**32 + 2**20)),
-    "P 0": (22, argon2(P=0)),
-    "P 17": (22, argon2(P=17)),
-    "P 2^32-1": (22, argon2(P=2**32 - 1)),
-    "M too little for P": (22, argon2(M=16 * LEAST_MEMORY - 1, P=16)),
+    "V absent": (10, 101, argon2(items_={"V": None})),
+    "S absent": (10, 101, argon2(items_={"S": None})),
+    "I absent": (10, 101, argon2(items_={"I": None})),
+    "M absent": (10, 101, argon2(items_={"M": None})),
+    "P absent": (10, 101, argon2(items_={"P": None})),
+    "V a UInt64": (10, 225, argon2(items_={"V": item(0x05, b"V", le(0x13, 8))})),
+    "S a string": (10, 183, argon2(items_={"S": item(0x18, b"S", SOUND["S"])})),
+    "I an Int64": (10, 133, argon2(items_={"I": item(0x0D, b"I", le(2, 8))})),
+    "M a UInt32": (10, 151, argon2(items_={"M": item(0x04, b"M", le(1_048_576, 4))})),
+    "P an Int32": (10, 169, argon2(items_={"P": item(0x0C, b"P", le(2, 4))})),
+    "P absent, V 0x10, K, no salt": (10, 101, argon2(items_={"P": None}, V=0x10, S=b"", more=SECRET)),
+    "S absent, I an Int64": (10, 101, argon2(items_={"S": None, "I": item(0x0D, b"I", le(2, 8))})),
+    "all of wrong type": (10, 177, argon2(items_={name: item(8, name.encode(), b"\0") for name in "IMPSV"})),
+    "all but V of wrong type": (10, 166, argon2(items_={name: item(8, name.encode(), b"\0") for name in "IMPS"})),
+    "M and P of wrong type": (10, 151, argon2(items_={name: item(8, name.encode(), b"\0") for name in "MP"})),
+    "the items of AES-KDF": (10, 101, kdf(uuid=IDENTIFIERS["argon2d"])),
+    "AES-KDF's identifier": (10, 101, argon2(items_={"$UUID": item(0x42, b"$UUID", AES_KDF)})),
+    "S twice": (6, 239, argon2(more=item(0x42, b"S", b""))),
+    "V 0x10": (9, 225, argon2(V=0x10)),
+    "V 0x113": (9, 225, argon2(V=0x113)),
+    "K empty": (9, 239, argon2(more=SECRET)),
+    "K, A": (9, 239, argon2(more=SECRET + ASSOCIATED)),
+    "A, K": (9, 249, argon2(more=ASSOCIATED + SECRET)),
+    "K, V 0x10 behind it": (9, 235, argon2(items_={"V": None}, more=SECRET + item(0x04, b"V", le(0x10, 4)))),
+    "A a Bool": (9, 239, argon2(more=item(0x08, b"A", b"\0"))),
+    "V 0x10, I 0": (9, 225, argon2(V=0x10, I=0)),
+    "A, salt of 7": (9, 214, argon2(S=bytes(7), more=item(0x42, b"A", b"a"))),
+    "salt of 7": (22, 183, argon2(S=bytes(7))),
+    "salt of 65": (22, 183, argon2(S=bytes(65))),
+    "I 0": (22, 133, argon2(I=0)),
+    "I 65": (22, 133, argon2(I=65)),
+    "I 2^32+1": (22, 133, argon2(I=2**32 + 1)),
+    "M 8191": (22, 151, argon2(M=LEAST_MEMORY - 1, P=1)),
+    "M over": (22, 151, argon2(M=MOST_MEMORY + 1)),
+    "M 2^32+2^20": (22, 151, argon2(M=2**32 + 2**20)),
+    "P 0": (22, 169, argon2(P=0)),
+    "P 17": (22, 169, argon2(P=17)),
+    "P 2^32-1": (22, 169, argon2(P=2**32 - 1)),
+    "salt of 7, I 0, M 0, P 0": (22, 183, argon2(S=bytes(7), I=0, M=0, P=0)),
+    "P 0, M 0, I 0": (22, 133, argon2(I=0, M=0, P=0)),
+    "P 0, M 0": (22, 151, argon2(M=0, P=0)),
+    "M too little for P": (22, 151, argon2(M=16 * LEAST_MEMORY - 1, P=16)),
 }
 
 
@@ -108,18 +120,19 @@ def headers(cases):
     aes_kdf = header(f11=kdf(more=item(0x42, b"K", b"") + item(0x04, b"A", bytes(4)) + item(0x04, b"V", le(0x10, 4))))
     said = {"kind": "aeskdf", "S": b"\x33" * 32, "R": ROUNDS}
     cases.add("header", "AES-KDF with K, A and V", figures(aes_kdf, 1, "chacha", said), data=aes_kdf)
-    for name, (no, data) in WRONG.items():
-        cases.add("header", f"Argon2, {name}", no, data=header(f11=data))
-    cases.add("header", "Argon2, I 65, custom broken", 22, data=header(f11=argon2(I=65), f12=b""))
-    cases.add("header", "Argon2, I 65, nonce of the other cipher", 5, data=header(f11=argon2(I=65), f7=NONCE))
+    for name, (no, place, data) in WRONG.items():
+        cases.add("header", f"Argon2, {name}", (no, place), data=header(f11=data))
+    cases.add("header", "Argon2, I 65, custom broken", (22, 133), data=header(f11=argon2(I=65), f12=b""))
+    cases.add("header", "Argon2, I 65, nonce of the other cipher", (5, 79), data=header(f11=argon2(I=65), f7=NONCE))
+    cases.add("header", "Argon2, custom broken", (10, 245), data=header(f11=argon2(), f12=b"\0"))
     cases.add("list", "Argon2", {"text": LISTING}, data=header(f11=argon2()))
-    cases.add("list", "Argon2, I 65", {"text": "R22\n"}, data=header(f11=argon2(I=65)))
+    cases.add("list", "Argon2, I 65", {"text": "R22 133\n"}, data=header(f11=argon2(I=65)))
 
 
 def vault_headers(cases, entries):
     for vault, entry in entries:
         if "expect" in entry:
-            cases.add("header", vault.name, entry["expect"], data=vault.header)
+            cases.add("header", vault.name, (entry["expect"], place_of(vault)), data=vault.header)
             continue
         said = figures(vault.header, int(entry["version"][2:]), entry["cipher"], entry["figures"])
         cases.add("header", vault.name, said, data=vault.header)
@@ -204,8 +217,9 @@ OPENED = ("v40-aes-argon2d-empty", "py-v41-chacha-argon2id-kf32", "argon-min")
 def openings(cases, entries):
     for vault, entry in entries:
         if "expect" in entry:
-            cases.add("open", vault.name, entry["expect"], data=vault.file[:2_000], T=T)
-            cases.add("steps", vault.name, entry["expect"], data=vault.file[:2_000], T=T, lents=[LARGE])
+            answer = entry["expect"], place_of(vault)
+            cases.add("open", vault.name, answer, data=vault.file[:2_000], T=T)
+            cases.add("steps", vault.name, answer, data=vault.file[:2_000], T=T, lents=[LARGE])
         if vault.name not in OPENED:
             continue
         payload = payload_of(vault)

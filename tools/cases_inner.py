@@ -1,6 +1,7 @@
 """Cases of the inner header.
 
-The numbers are told by hand, from document 01. Attachments and documents of other programs' vaults are the manifest's.
+The numbers and places are told by hand, from documents 01 and 02, and compared with the model's (inner_model.py).
+Attachments and documents of other programs' vaults are the manifest's.
 """
 from case_list import LARGE, field
 from digests import must, sha256
@@ -10,21 +11,29 @@ from vectors_writer import le
 ALGORITHM, KEY, END = field(1, le(3, 4)), field(2, b"key"), field(0, b"")
 ATTACHMENT = field(3, b"\x01content")
 SOUND = ALGORITHM + KEY + ATTACHMENT + field(3, b"\xff") + END + b"<document>"
-# Payloads that are refused, with the number.
+# Payloads that are refused, with the number and the place. ALGORITHM has 9 bytes, KEY 8, ATTACHMENT 13, END 5.
 WRONG_PAYLOADS = {
-    "empty": (2, b""),
-    "no end": (2, ALGORITHM + KEY),
-    "value cut": (2, SOUND[:16]),
-    "largest size": (2, ALGORITHM + field(3, b"", 2**31 - 1)),
-    "algorithm of 3 bytes": (5, field(1, b"\3\0\0") + KEY + END),
-    "negative key": (5, ALGORITHM + field(2, b"", -1)),
-    "attachment without flags": (5, ALGORITHM + KEY + field(3, b"") + END),
-    "end of size 4": (5, ALGORITHM + KEY + field(0, bytes(4))),
-    "second key": (6, ALGORITHM + KEY + KEY + END),
-    "field 4": (7, ALGORITHM + field(4, b"") + KEY + END),
-    "no key": (8, ALGORITHM + END),
-    "no key, other algorithm": (8, field(1, le(1, 4)) + END),
-    "other algorithm": (9, field(1, le(1, 4)) + KEY + END),
+    "empty": (2, 0, b""),
+    "four bytes": (2, 4, b"\x09\0\0\0"),
+    "no end": (2, 17, ALGORITHM + KEY),
+    "value cut": (2, 16, SOUND[:16]),
+    "largest size": (2, 14, ALGORITHM + field(3, b"", 2**31 - 1)),
+    "algorithm of 3 bytes": (5, 0, field(1, b"\3\0\0") + KEY + END),
+    "algorithm of 5 bytes, last": (5, 21, KEY + ATTACHMENT + field(1, bytes(5)) + END),
+    "negative key": (5, 9, ALGORITHM + field(2, b"", -1)),
+    "attachment without flags": (5, 17, ALGORITHM + KEY + field(3, b"") + END),
+    "second attachment without flags": (5, 30, ALGORITHM + KEY + ATTACHMENT + field(3, b"") + ATTACHMENT + END),
+    "end of size 4": (5, 17, ALGORITHM + KEY + field(0, bytes(4))),
+    "second key": (6, 17, ALGORITHM + KEY + KEY + END),
+    "second algorithm, then second key": (6, 30, ALGORITHM + KEY + ATTACHMENT + ALGORITHM + KEY + END),
+    "field 4": (7, 9, ALGORITHM + field(4, b"") + KEY + END),
+    "field 255 behind an attachment": (7, 13, ATTACHMENT + field(255, b"", -1)),
+    "end alone": (8, 0, END + ALGORITHM + KEY),
+    "no key": (8, 9, ALGORITHM + END),
+    "no key, other algorithm": (8, 9, field(1, le(1, 4)) + END),
+    "attachments alone": (8, 26, ATTACHMENT + ATTACHMENT + END),
+    "other algorithm": (9, 0, field(1, le(1, 4)) + KEY + END),
+    "other algorithm, last": (9, 21, KEY + ATTACHMENT + field(1, le(4, 4)) + END),
 }
 
 
@@ -62,10 +71,12 @@ def inner_readings(cases, entries):
         answer = {"flags": flags, "at": start, "length": length, "content": content}
         cases.add("attachment", f"{i}", answer, data=SOUND, index=i)
     for i in (2, 2**32, LARGE):
-        cases.add("attachment", f"{i}", 8, data=SOUND, index=i)
-    for name, (no, data) in WRONG_PAYLOADS.items():
-        cases.add("inner", name, no, data=data)
-        cases.add("attachment", name, no, data=data, index=9)
+        cases.add("attachment", f"{i}", (8, 36), data=SOUND, index=i)
+    cases.add("attachment", "none", (8, 17), data=ALGORITHM + KEY + END + ATTACHMENT, index=0)
+    cases.add("attachment", "1 of 1, any order", (8, 27), data=any_order, index=1)
+    for name, (no, place, data) in WRONG_PAYLOADS.items():
+        cases.add("inner", name, (no, place), data=data)
+        cases.add("attachment", name, (no, place), data=data, index=9)
 
 
 def inner_writings(cases):

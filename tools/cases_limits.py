@@ -68,7 +68,7 @@ def readers(cases):
         cases.add(op, "longest", no, data=zeros(FILE_LIMIT), **more)
         cases.add(op, "over", 1, data=zeros(FILE_LIMIT + 1), **more)
     cases.add("dict", "over a file's limit", 10, data=zeros(FILE_LIMIT + 1))
-    cases.add("list", "longest", {"text": "R03\n"}, data=zeros(PROGRAM_LIMIT))
+    cases.add("list", "longest", {"text": "R03 0\n"}, data=zeros(PROGRAM_LIMIT))
     cases.add("list", "over", {"text": "R01\n"}, data=zeros(PROGRAM_LIMIT + 1))
 
 

@@ -1,19 +1,18 @@
 """Cases of opening and writing vaults.
 
-The numbers, and what each step hands over, are told by hand, from documents 01 and 02. Payloads and blocks of other
-programs' vaults are the manifest's, decrypted by the package cryptography, which is OpenSSL. Files to be written come
-from the writer that vectors_writer.py has of its own.
+The numbers, the places, and what each step hands over, are told by hand, from documents 01 and 02. Payloads and blocks
+of other programs' vaults are the manifest's, decrypted by the package cryptography, which is OpenSSL. Files to be
+written come from the writer that vectors_writer.py has of its own.
 """
 import hmac
 
 from case_list import KDF_SEED, LARGE, NAMES, NONCE, NONCES, ROUNDS, SEED, T
 from digests import must, sha256, sha512
 from cryptography.hazmat.primitives.ciphers import Cipher, algorithms, modes
+from header_model import FILE_LIMIT
 from messages import pattern
 from payloads import payload_of
 from vectors_writer import AES, CHACHA20, CUSTOM, DICTIONARIES, encrypted, header_of, le, write
-
-FILE_LIMIT = 16_777_216  # of a payload too
 
 
 def tag_of(i, *parts):
@@ -25,8 +24,8 @@ def block(i, data=b"", size=None):
     return tag_of(i, le(i, 8), size, data) + size + data
 
 
-def front(cipher, rounds=ROUNDS):
-    head = header_of(1, cipher, SEED, NONCES[cipher], KDF_SEED, rounds, b"")
+def front(cipher, rounds=ROUNDS, custom=b""):
+    head = header_of(1, cipher, SEED, NONCES[cipher], KDF_SEED, rounds, custom)
     return head + sha256(head) + tag_of(2**64 - 1, head)
 
 
@@ -56,39 +55,44 @@ def flipped(data, at):
 
 
 def damaged_vaults():
-    """Vaults that are refused, by name, with the number."""
+    """Vaults that are refused, by name, with the number and the place."""
     whole = sealed(CHACHA20, ciphertext(CHACHA20, b"payload"), 7)
     n = len(front(CHACHA20))
     return {
-        "empty": (2, b""),
-        "signature": (3, flipped(whole, 0)),
-        "rounds 5,999": (20, sealed(CHACHA20, ciphertext(CHACHA20, b"payload"), 7, rounds=5_999)),
-        "one round": (20, sealed(AES, ciphertext(AES, b"payload"), 16, rounds=1)),
-        "one round, hash cut": (20, front(CHACHA20, 1)[:-64]),
-        "one round, hash": (20, flipped(front(CHACHA20, 1), -64)),
-        "one round, tag": (20, flipped(front(CHACHA20, 1), -1)),
-        "hash cut": (2, whole[: n - 64]),
-        "tag cut": (2, whole[: n - 1]),
-        "hash": (12, flipped(whole, n - 64)),
-        "tag": (13, flipped(whole, n - 1)),
-        "tag of number 0": (13, whole[: n - 32] + tag_of(0, whole[: n - 64]) + whole[n:]),
-        "hash and tag": (12, flipped(flipped(whole, n - 64), n - 1)),
-        "block cut at 35": (2, whole[: n + 35]),
-        "block cut in its data": (2, flipped(whole, n)[: n + 42]),
-        "no closing block": (2, whole[: n + 43]),
-        "closing block cut": (2, whole[:-1]),
-        "negative size": (5, front(CHACHA20) + block(0, b"payload", -1) + block(1)),
-        "block tag": (14, flipped(whole, n)),
-        "block data": (14, flipped(whole, n + 36)),
-        "closing tag": (14, flipped(whole, -36)),
-        "blocks exchanged": (14, front(CHACHA20) + block(1, b"b") + block(0, b"a") + block(2)),
-        "byte behind": (15, whole + b"\0"),
-        "AES without a block": (16, front(AES) + block(0)),
-        "AES of 17 bytes": (16, sealed(AES, bytes(17), 17)),
-        "padding 0": (16, sealed(AES, cbc(bytes(16)), 16)),
-        "padding 17": (16, sealed(AES, cbc(bytes([17] * 32)), 32)),
-        "padding differs": (16, sealed(AES, cbc(bytes(13) + b"\2\3\3"), 16)),
-        "padding and byte behind": (15, sealed(AES, cbc(bytes(16)), 16) + b"\0"),
+        "empty": (2, 0, b""),
+        "signature": (3, 0, flipped(whole, 0)),
+        "second signature": (3, 4, flipped(whole, 7)),
+        "version": (4, 8, flipped(whole, 8 + 1)),
+        "end bytes": (5, 194, flipped(whole, n - 65)),
+        "second name in the custom dictionary": (6, 219, front(CHACHA20, custom=DICTIONARIES["repeated"][1])),
+        "custom broken": (10, 199, front(CHACHA20, custom=b"\0\2\0")),
+        "rounds 5,999": (20, 133, sealed(CHACHA20, ciphertext(CHACHA20, b"payload"), 7, rounds=5_999)),
+        "one round": (20, 137, sealed(AES, ciphertext(AES, b"payload"), 16, rounds=1)),
+        "one round, hash cut": (20, 133, front(CHACHA20, 1)[:-64]),
+        "one round, hash": (20, 133, flipped(front(CHACHA20, 1), -64)),
+        "one round, tag": (20, 133, flipped(front(CHACHA20, 1), -1)),
+        "hash cut": (2, 0, whole[: n - 64]),
+        "tag cut": (2, 0, whole[: n - 1]),
+        "hash": (12, 0, flipped(whole, n - 64)),
+        "tag": (13, 0, flipped(whole, n - 1)),
+        "tag of number 0": (13, 0, whole[: n - 32] + tag_of(0, whole[: n - 64]) + whole[n:]),
+        "hash and tag": (12, 0, flipped(flipped(whole, n - 64), n - 1)),
+        "block cut at 35": (2, 0, whole[: n + 35]),
+        "block cut in its data": (2, 0, flipped(whole, n)[: n + 42]),
+        "no closing block": (2, 0, whole[: n + 43]),
+        "closing block cut": (2, 0, whole[:-1]),
+        "negative size": (5, 0, front(CHACHA20) + block(0, b"payload", -1) + block(1)),
+        "block tag": (14, 0, flipped(whole, n)),
+        "block data": (14, 0, flipped(whole, n + 36)),
+        "closing tag": (14, 0, flipped(whole, -36)),
+        "blocks exchanged": (14, 0, front(CHACHA20) + block(1, b"b") + block(0, b"a") + block(2)),
+        "byte behind": (15, 0, whole + b"\0"),
+        "AES without a block": (16, 0, front(AES) + block(0)),
+        "AES of 17 bytes": (16, 0, sealed(AES, bytes(17), 17)),
+        "padding 0": (16, 0, sealed(AES, cbc(bytes(16)), 16)),
+        "padding 17": (16, 0, sealed(AES, cbc(bytes([17] * 32)), 32)),
+        "padding differs": (16, 0, sealed(AES, cbc(bytes(13) + b"\2\3\3"), 16)),
+        "padding and byte behind": (15, 0, sealed(AES, cbc(bytes(16)), 16) + b"\0"),
     }
 
 
@@ -100,9 +104,9 @@ def whole_openings(cases, entries):
             answer = {"length": entry["payload_length"], "payload": payload}
             cases.add("open", vault.name, answer, data=vault.file, T=vault.t)
             cases.add("open", f"{vault.name}, other key", 13, data=vault.file[:2_000], T=flipped(vault.t, 31))
-    for name, (no, data) in damaged_vaults().items():
-        cases.add("open", name, no, data=data, T=T)
-        cases.add("open", f"{name}, no room", no, data=data, T=T, lent=0)
+    for name, (no, place, data) in damaged_vaults().items():
+        cases.add("open", name, (no, place), data=data, T=T)
+        cases.add("open", f"{name}, no room", (no, place), data=data, T=T, lent=0)
     for cipher, name in NAMES.items():
         payload = pattern(40)
         text = ciphertext(cipher, payload)
@@ -176,10 +180,11 @@ def made_steps(cases):
     step_case(cases, "padding, no room", sealed(AES, cbc(bytes(32)), 32), [16, 0, 0],
               [step(bytes(16)), no_step(16), no_step(19)])
     for name in (
-        "empty", "signature", "rounds 5,999", "one round", "one round, hash", "hash cut", "tag cut", "hash", "tag"
+        "empty", "signature", "second signature", "version", "end bytes", "second name in the custom dictionary",
+        "custom broken", "rounds 5,999", "one round", "one round, hash", "hash cut", "tag cut", "hash", "tag",
     ):
-        no, data = damaged_vaults()[name]
-        cases.add("steps", f"start: {name}", no, data=data, T=T, lents=[99, 99])
+        no, place, data = damaged_vaults()[name]
+        cases.add("steps", f"start: {name}", (no, place), data=data, T=T, lents=[99, 99])
 
 
 # Document 01, "Numbers to meet", and document 02, Item 7: the lengths of files without a custom dictionary.

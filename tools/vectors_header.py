@@ -3,15 +3,16 @@
 
 FIXTURES is the folder of vaults that other programs wrote, with its manifest.json: who does not have it cannot run this
 script, and needs only the files that it writes. Every expected listing is computed by a model of outer headers
-(header_model.py), which follows the requirements' page and shares no code with the library. The refusal's number of
+(header_model.py), which follows the requirements' pages and shares no code with the library. The refusal's number of
 each damaged header is also told beside the case, by hand, and compared with what the model says, but for those of
-`changed` and of other programs' vaults.
+`changed` and of other programs' vaults; the places of `field_places`, `kdf_places`, `argon2_places`, `repeated_places`
+and `custom_places` are too.
 """
 import pathlib
 import sys
 
 from header_model import (
-    AES, AES_KDF, ARGON2D, ARGON2ID, CHACHA20, END, ITEM_SIZES, SIGNATURES, TWOFISH, Refused, number, read_header
+    AES, AES_KDF, ARGON2D, ARGON2ID, CHACHA20, END, ITEM_SIZES, SIGNATURES, TWOFISH, Refused, number, read_header,
 )
 from vaults import text_field, vaults
 
@@ -19,12 +20,12 @@ PROGRAM_LIMIT = 65_536
 
 
 def listing(data):
+    """The number, the place and the text."""
     try:
         _, frames = read_header(data, PROGRAM_LIMIT)
-        return 0, "".join(frame.hex().upper() + "\n" for frame in frames)
-    except Refused as refused:
-        no = refused.args[0]
-        return no, f"R{no:02}\n"
+        return 0, 0, "".join(frame.hex().upper() + "\n" for frame in frames)
+    except Refused as r:
+        return r.no, r.place, f"R{r.no:02}\n" if r.no == 1 else f"R{r.no:02} {r.place}\n"
 
 
 # the cases
@@ -48,8 +49,12 @@ def dictionary(*items, version=b"\x00\x01", end=b"\x00"):
     return version + b"".join(items) + end
 
 
+def rounds_item(n):
+    return item(0x05, b"R", number(n, 8))
+
+
 def rounds(n):
-    return dictionary(UUID, item(0x05, b"R", number(n, 8)), S)
+    return dictionary(UUID, rounds_item(n), S)
 
 
 def argon2_dictionary(*more, uuid=ARGON2D, **changed):
@@ -78,11 +83,11 @@ def header(version=0x40001, signatures=SIGNATURES, end=field(0, END), order=(2, 
 
 
 class Cases(list):
-    def case(self, name, data, expected, length=None):
-        """A file: the data, and zeros up to the length."""
+    def case(self, name, data, expected, length=None, place=None):
+        """A file: the data, and zeros up to the length. The number is compared, and a place that is told."""
         length = len(data) if length is None else length
-        got, text = listing(data.ljust(length, b"\0"))
-        assert got == expected, (name, got, expected)
+        no, at, text = listing(data.ljust(length, b"\0"))
+        assert no == expected and place in (None, at), (name, no, at, expected, place)
         self.append((name, data, length, text))
 
 
@@ -291,6 +296,121 @@ def custom(cases):
     custom_case("repeated-name-and-kdf-broken", twice, 10, f11=dictionary(R, S))
 
 
+def field_places(cases):
+    """The fields in another order, and fields behind others."""
+    order = (11, 12, 7, 4, 3, 2)
+    for id_, value, no in (
+        (2, TWOFISH, 9), (3, number(1, 4), 9), (7, bytes(13), 5), (4, bytes(33), 5), (2, None, 8), (11, None, 8),
+    ):
+        data = header(order=order, f12=dictionary(), **{f"f{id_}": value})
+        at = len(data) - 9 if no == 8 else data.index(field(id_, value))
+        cases.case(f"reversed-{id_}-{no}", data, no, place=at)
+    both = header(f2=TWOFISH, f3=number(1, 4), order=(3, 2, 4, 7, 11))
+    cases.case("cipher-behind-compression", both, 9, place=both.index(field(2, TWOFISH)))
+    first = field(7, bytes(12)) + field(12, dictionary())
+    for name, more in (("seed", field(4, b"\x11" * 32)), ("custom", field(12, dictionary()))):
+        data = header(f7=None, before=first + more + field(7, bytes(12)))
+        cases.case(f"first-of-two-repeated-{name}", data, 6, place=len(header(f7=None, end=b"")) + len(first))
+    cases.case("second-signature-last-byte", header(signatures=SIGNATURES[:7] + b"\xb4"), 3, place=4)
+    front = header(f12=dictionary(R), end=b"")
+    cases.case("end-bytes-behind-custom", front + field(0, bytes(4)), 5, 300, place=len(front))
+
+
+def kdf_places(cases):
+    """The dictionary's value begins at 101 where the fields stand as in the worked header."""
+    def kdf_case(name, expected, i, *items):
+        """`i` counts the item at fault from 0, or is None for the value's beginning."""
+        place = 101 if i is None else 103 + sum(map(len, items[:i]))
+        cases.case(f"kdf-place-{name}", header(f11=dictionary(*items)), expected, place=place)
+
+    unlisted, short = item(0x42, b"$UUID", TWOFISH), item(0x42, b"$UUID", AES_KDF[:15])
+    few, wrong_s, wrong_r = rounds_item(5_999), item(0x42, b"S", bytes(33)), item(0x04, b"R", bytes(4))
+    kdf_case("uuid-last-short", 10, 2, R, S, short)
+    kdf_case("uuid-last-as-string", 10, 2, R, S, item(0x18, b"$UUID", AES_KDF))
+    kdf_case("uuid-last-unlisted", 9, 2, wrong_r, wrong_s, unlisted)
+    kdf_case("no-uuid-wrong-items", 10, None, wrong_r, wrong_s)
+    kdf_case("no-seed-wrong-rounds", 10, None, UUID, wrong_r)
+    kdf_case("wrong-rounds-before-wrong-seed", 10, 2, UUID, wrong_r, wrong_s)
+    kdf_case("few-first", 20, 0, few, S, UUID)
+    kdf_case("over-behind-others", 11, 3, S, UUID, item(0x18, b"r", b"R"), rounds_item(4_000_001))
+    kdf_case("broken-behind-few", 10, 3, UUID, few, S, item(0x08, b"", b""))
+    last = header(order=(12, 2, 3, 4, 7, 11), f12=dictionary(few), f11=dictionary(UUID, few, S))
+    cases.case("kdf-place-few-in-custom-too", last, 20, place=last.index(few, 105))
+
+
+def argon2_places(cases):
+    def argon2_case(name, expected, at, *more, **changed):
+        """`at` is the item at fault, or None for the value's beginning."""
+        data = header(f11=argon2_dictionary(*more, **changed))
+        cases.case(f"argon2-place-{name}", data, expected, place=101 if at is None else data.index(at, 103))
+
+    salt = item(0x42, b"S", bytes(65))
+    secret, associated = item(0x42, b"K", b""), item(0x18, b"A", b"")
+    version, i_0, p_0 = item(0x04, b"V", number(0x10, 4)), item(0x05, b"I", bytes(8)), item(0x04, b"P", bytes(4))
+    wrong = {name: item(0x0C, name.encode(), bytes(4)) for name in "VSIMP"}
+    argon2_case("K-then-A", 9, secret, secret, associated)
+    argon2_case("A-then-K", 9, secret, associated, secret)
+    argon2_case("version-behind-K", 9, version, secret, version, V=None)
+    argon2_case("no-S-wrong-I", 10, None, wrong["I"], S=None, I=None)
+    argon2_case("all-types-wrong", 10, wrong["V"], *wrong.values(), **dict.fromkeys("VSIMP"))
+    argon2_case("types-wrong-but-V", 10, wrong["S"], *(wrong[name] for name in "PMIS"), **dict.fromkeys("SIMP"))
+    argon2_case("types-wrong-M-P", 10, wrong["M"], wrong["P"], wrong["M"], P=None, M=None)
+    argon2_case("figures-all", 22, salt, p_0, i_0, salt, **dict.fromkeys("PIS"), M=0)
+    argon2_case("figures-but-S", 22, i_0, p_0, i_0, **dict.fromkeys("PI"), M=0)
+    argon2_case("figures-M-P", 22, item(0x05, b"M", bytes(8)), p_0, P=None, M=0)
+    little = item(0x05, b"M", number(16_383, 8))
+    argon2_case("too-little-for-P", 22, little, item(0x08, b"m", b"\0"), little, M=None)
+
+
+def tiny(*names):
+    """Items of empty values."""
+    return [item(0x42, name, b"") for name in names]
+
+
+def repeated_places(cases):
+    """The first repeated name that is met from the front, in a custom dictionary."""
+    def repeated_case(name, i, items, end=b"\0"):
+        """`i` counts the item at fault from 0."""
+        place = len(header(end=b"")) + 5 + 2 + sum(map(len, items[:i]))
+        cases.case(f"repeated-place-{name}", header(f12=dictionary(*items, end=end)), 6, place=place)
+
+    repeated_case("second-name-first", 2, tiny(b"a", b"b", b"b", b"a"))
+    repeated_case("inside-another", 3, tiny(b"a", b"b", b"c", b"b", b"a"))
+    repeated_case("first-name-first", 2, tiny(b"a", b"b", b"a", b"b"))
+    repeated_case("empty-names", 3, tiny(b"a", b"", b"ab", b"", b"a"))
+    repeated_case("no-closing-byte", 2, tiny(b"a", b"b", b"a"), end=b"")
+    names = [bytes([i]) for i in range(70)]
+    repeated_case("70-last-of-first", 70, tiny(*names, names[0]))
+    repeated_case("70-across-64", 68, tiny(*names[:68], names[3], *names[68:], names[2]))
+    repeated_case("70-next-to-64", 65, tiny(*names[:65], names[64], names[0]))
+    names = [bytes([i]) for i in range(256)] + [bytes([i, i]) for i in range(44)]
+    repeated_case("300-last-of-first", 300, tiny(*names, names[0]))
+    repeated_case("300-second-name-first", 280, tiny(*names[:280], names[150], *names[280:], names[7]))
+
+
+def custom_places(cases):
+    """Faults of the custom dictionary, which stands last or first; the KDF dictionary is sound."""
+    least = item(0x18, b"x", b"")
+    for name, d, no, at in (
+        ("version", dictionary(R, version=b"\1\2"), 10, 0),
+        ("no-closing-byte", dictionary(R, end=b""), 10, 0),
+        ("bytes-behind", dictionary(R, end=b"\0\0"), 10, 0),
+        ("type", dictionary(R, item(0x01, b"", b""), R), 10, 2 + len(R)),
+        ("negative-name", dictionary(least, item(0x18, b"x", b"", -1)), 10, 2 + len(least)),
+        ("cut-at-its-type", dictionary(least, b"\x18", end=b""), 10, 2 + len(least)),
+        ("cut-in-its-value", dictionary(least, R[:-1], end=b""), 10, 2 + len(least)),
+        ("size", dictionary(item(0x08, b"x", b""), least), 10, 2),
+        ("repeated-name-second-type", dictionary(R, least, item(0x04, b"R", bytes(4))), 6, 2 + len(R) + len(least)),
+    ):
+        cases.case(f"custom-place-{name}", header(f12=d), no, place=len(header(end=b"")) + 5 + at)
+    for name, d, no, at in (
+        ("no-closing-byte", dictionary(least, end=b""), 10, 0),
+        ("repeated", dictionary(least, least), 6, 2 + len(least)),
+    ):
+        first = header(f12=d, order=(12, 2, 3, 4, 7, 11))
+        cases.case(f"custom-place-first-{name}", first, no, place=17 + at)
+
+
 def changed(cases):
     """The worked header with one byte raised by one, for every third byte."""
     whole = header()
@@ -318,6 +438,8 @@ def main(folder):
     few_rounds(cases)
     argon2(cases)
     custom(cases)
+    for places in (field_places, kdf_places, argon2_places, repeated_places, custom_places):
+        places(cases)
     changed(cases)
     written(cases, folder)
     names = [name for name, _, _, _ in cases]
@@ -328,7 +450,7 @@ def main(folder):
     (crates / "vectors_header" / "stdin").write_text(table)
     (crates / "vectors_header" / "stdout").write_text(out)
     (crates / "list" / "stdin").write_bytes(header())
-    (crates / "list" / "stdout").write_text(listing(header())[1])
+    (crates / "list" / "stdout").write_text(listing(header())[2])
 
 
 if len(sys.argv) != 2:

@@ -3,11 +3,12 @@
 
 FIXTURES is the folder of vaults that other programs wrote, with its manifest.json and keys/: who does not have it
 cannot run this script, and needs only the files that it writes. The other vaults are bench.kdbx and hex-key.kdbx of
-crates/open/data, which tools/sample.py made, damaged copies of the first, and six that are made here. Numbers,
-documents and hashes come from the openers of vectors_vault.py, with T by the AES and the Argon2 of the package
-cryptography, which is OpenSSL; the documents of the vaults in FIXTURES are compared with the manifest's hashes. The
-number expected of each case is told beside it, by hand.
-The sentences are the indented lines of docs/REFUSALS.md, so that the gate holds the program to that page.
+crates/open/data, which tools/sample.py made, damaged copies of the first, and ten that are made here. Numbers, places,
+documents and hashes come from the openers of vectors_vault.py and the model of inner headers (inner_model.py), with T
+by the AES and the Argon2 of the package cryptography, which is OpenSSL; the documents of the vaults in FIXTURES are
+compared with the manifest's hashes. The number and the place expected of each case are told beside it, by hand.
+The sentences are the indented lines of docs/REFUSALS.md, so that the gate holds the program to that page. A place other
+than 0 stands behind the number, counted in the file, or in the contents where the inner header is refused.
 """
 import json
 import pathlib
@@ -16,14 +17,15 @@ import sys
 from cryptography.hazmat.primitives.kdf.argon2 import Argon2d, Argon2id
 
 from header_model import (
-    AES_KDF, ARGON2D, ARGON2ID, CHACHA20, SIGNATURES, Refused, int32, need, read_header, sound_items
+    AES_KDF, ARGON2D, ARGON2ID, CHACHA20, FILE_LIMIT, SIGNATURES, Refused, need, read_header, sound_items,
 )
+from inner_model import read
 from key_files import key_file_part
 from sample import PASSWORD, transformed
 from vaults import text_field
 from digests import must, sha256
 from vectors_vault import (
-    AES, FILE_LIMIT, ROUNDS, Keys, blocks, field, flipped, front, header, kdf, number, open_whole, text_of
+    AES, ROUNDS, Keys, blocks, field, flipped, front, header, item, kdf, number, open_whole, text_of,
 )
 
 ROOT = pathlib.Path(__file__).parent.parent
@@ -50,18 +52,17 @@ def composite(password, key_file):
     return sha256(*parts)
 
 
+class ContentsRefused(Refused):
+    """A refusal of the inner header: its place is counted in the payload."""
+
+
 def document_of(payload):
     """What stands behind the inner header."""
-    at, seen = 0, {}
-    while 0 not in seen:
-        need(at + 5 <= len(payload), 2)
-        id_, size = payload[at], int32(payload, at + 1)
-        need(size >= 0, 5)
-        need(at + 5 + size <= len(payload), 2)
-        seen[id_] = payload[at + 5 : at + 5 + size]
-        at += 5 + size
-    need({1, 2} <= seen.keys(), 8)
-    return payload[at:]
+    try:
+        _, _, _, document, _ = read(payload)
+    except Refused as r:
+        raise ContentsRefused(r.no, r.place) from r
+    return payload[document:]
 
 
 def key_of(composite, items):
@@ -92,26 +93,33 @@ class Cases:
         for old in folder.iterdir():
             old.unlink()
 
-    def case(self, name, expected, f, password, key_file=None, file=None):
-        """A vault with its credentials, and the number of its opening; the document."""
+    def line(self, r):
+        """What a technician sees of a refusal."""
+        where = f" at byte {r.place}" if r.place else ""
+        if where and isinstance(r, ContentsRefused):
+            where += " of the contents"
+        return self.lines[r.no].replace(":", where + ":", 1)
+
+    def case(self, name, expected, f, password, key_file=None, file=None, place=0):
+        """A vault with its credentials, and the number and the place of its opening; the document."""
         file = f"{name}.kdbx" if file is None else file
         (self.folder / file).write_bytes(f)
         self.table.append(f"{name} {file} {text_field(password)} {text_field(key_file)}")
         try:
-            no, document = 0, unlocked(f, password, key_file)
+            document = unlocked(f, password, key_file)
         except Refused as r:
-            no, document = r.args[0], None
-        must(no == expected, (name, no, expected))
-        if no:
-            self.rows.append(f"{name} {self.lines[no]}")
-        else:
-            self.rows.append(f"document {name} {len(document)} 0 {sha256(document).hex()}")
+            must((r.no, r.place) == (expected, place), (name, r.no, r.place))
+            self.rows.append(f"{name} {self.line(r)}")
+            return None
+        must(expected == 0, name)
+        self.rows.append(f"document {name} {len(document)} 0 {sha256(document).hex()}")
         return document
 
 
 def others(cases, folder):
     """Vaults of other programs by each KDF: password, empty password, key file, both; and those that are refused."""
     entries = {entry["file"]: entry for entry in json.loads((folder / "manifest.json").read_text("utf-8"))}
+    places = {"argon-i65.kdbx": 133, "argon-salt65.kdbx": 183, "rounds-4000001.kdbx": 137, "unpatched-aes.kdbx": 198}
     for file, expected in (
         ("kp2-v40-aes-aeskdf-pw.kdbx", 0), ("xc-v41-chacha-aeskdf-empty.kdbx", 0),
         ("py-v40-chacha-aeskdf-kf32.kdbx", 0), ("py-v41-aes-aeskdf-pwkf.kdbx", 0), ("v41-aes-aeskdf-kfother.kdbx", 0),
@@ -124,7 +132,7 @@ def others(cases, folder):
         entry, f = entries[file], (folder / file).read_bytes()
         password = entry["password"].encode("utf-8") if "password" in entry else None
         key_file = (folder / entry["keyfile"]).read_bytes() if "keyfile" in entry else None
-        document = cases.case(file.removesuffix(".kdbx"), expected, f, password, key_file)
+        document = cases.case(file.removesuffix(".kdbx"), expected, f, password, key_file, place=places.get(file, 0))
         must(document is None or sha256(document).hex() == entry["document_sha256"], file)
     file = "xc-v41-aes-argon2id-pw.kdbx"
     cases.case("argon2_wrong_password", 13, (folder / file).read_bytes(), b"correct hearse", file=file)
@@ -144,13 +152,13 @@ def bench(cases):
     cases.case("damaged_header", 12, changed, password)
     cases.case("changed_header", 13, changed[:n] + sha256(changed[:n]) + f[n + 32 :], password)
     cases.case("flipped_block", 14, flipped(f, n + 64 + 36 + 1000), password)
-    cases.case("cut_header", 2, f[: n - 3], password)
+    cases.case("cut_header", 2, f[: n - 3], password, place=n - 3)
     cases.case("cut_block", 2, f[: n + 64 + 36 + 1000], password)
     cases.case("one_byte_more", 15, f + b"\0", password)
     cases.case("longest", 15, f.ljust(PROGRAM_LIMIT, b"\0"), password)
     cases.case("too_long", 1, f.ljust(PROGRAM_LIMIT + 1, b"\0"), password)
     cases.case("not_a_vault", 3, b"Unlock codes: ask at the desk.\n", password)
-    cases.case("version_3", 4, SIGNATURES + b"\1\0\3\0", password)
+    cases.case("version_3", 4, SIGNATURES + b"\1\0\3\0", password, place=8)
     return document
 
 
@@ -184,21 +192,31 @@ def former_rule(cases):
 
 
 def made(cases):
-    """Vaults that are tagged rightly and end wrongly."""
+    """Vaults that are tagged rightly and end wrongly, and those whose custom dictionary or contents are wrong."""
     t = transformed(composite(b"a", None), b"\x33" * 32, ROUNDS)
     a, c = Keys(AES, bytes(16), bytes(32), t), Keys(CHACHA20, bytes(12), bytes(32), t)
     wrong = a.crypt(bytes(16), False)
     cases.case("wrong_padding", 16, front(a, header(a, f4=bytes(32))) + blocks(a, wrong, [16]), b"a")
-    cases.case("no_inner_header", 2, front(c, header(c, f4=bytes(32))) + blocks(c, text_of(c, b"xml"), [16]), b"a")
+    start, algorithm, key, end = front(c, header(c, f4=bytes(32))), field(1, number(3, 4)), field(2, b""), field(0, b"")
+    for name, expected, place, payload in (
+        ("no_inner_header", 2, 3, b"xml"),
+        ("inner_attachment_empty", 5, 40, algorithm + key + field(3, bytes(21)) + field(3, b"") + end),
+        ("inner_other_algorithm", 9, 0, field(1, number(1, 4)) + key + end),
+        ("inner_no_key", 8, 9, algorithm + end + key),
+    ):
+        cases.case(name, expected, start + blocks(c, text_of(c, payload), [16]), b"a", place=place)
+    twice = b"\0\1" + 2 * item(0x18, b"name", b"bench") + b"\0"
+    start = front(c, header(c, f4=bytes(32), f12=twice))
+    cases.case("custom_name_twice", 6, start + blocks(c, b"", [16]), b"a", place=219)
 
 
 def few_rounds(cases):
     """Two vaults that differ in nothing but their rounds, and what follows from them; and one of one round."""
     payload = field(1, number(3, 4)) + field(2, bytes(64)) + field(0, b"") + b"<KeePassFile/>"
-    for rounds, expected in ((6_000, 0), (5_999, 20), (1, 20)):
+    for rounds, expected, place in ((6_000, 0, 0), (5_999, 20, 133), (1, 20, 133)):
         c = Keys(CHACHA20, bytes(12), bytes(32), transformed(composite(b"a", None), b"\x33" * 32, rounds))
         f = front(c, header(c, f4=bytes(32), f11=kdf(rounds=rounds))) + blocks(c, text_of(c, payload), [16_384])
-        cases.case(f"rounds_{rounds}", expected, f, b"a")
+        cases.case(f"rounds_{rounds}", expected, f, b"a", place=place)
 
 
 def main(folder):

@@ -5,9 +5,9 @@ FIXTURES is the folder of vaults that other programs wrote, with its manifest.js
 script, and needs only crates/vectors_vault/stdin and stdout, which it writes. All rows come from a model of outer
 headers (header_model.py), and from a whole opener and a plain opener told here from document 01, with Python's hashlib
 and hmac and the ciphers of the package cryptography, which is OpenSSL. What it opens of the vaults is compared with the
-manifest's block sizes, payload lengths and hashes; the numbers of made and damaged vaults are told beside each, by
-hand, and compared with what the openers say. No file stands at the limit or over it: the program's stack does not hold
-one, and tests/differential runs these.
+manifest's block sizes, payload lengths and hashes; the numbers and places of made and damaged vaults are told beside
+each, by hand, and compared with what the openers say. No file stands at the limit or over it: the program's stack does
+not hold one, and tests/differential runs these.
 """
 import hmac
 import json
@@ -17,12 +17,11 @@ import sys
 from cryptography.hazmat.primitives.ciphers import Cipher, algorithms, modes
 from digests import must, sha256, sha512
 from header_model import (
-    AES, AES_KDF, ARGON2D, CHACHA20, END, SIGNATURES, TWOFISH, Refused, int32, need, number, read_header
+    AES, AES_KDF, ARGON2D, CHACHA20, END, FILE_LIMIT, SIGNATURES, TWOFISH, Refused, int32, need, number, read_header,
 )
 from messages import pattern
 from vaults import text_field, vaults
 
-FILE_LIMIT = 16_777_216
 TABLE_LIMIT = 1_000_000
 # The table has no room for all vaults: of two of KeePass 2 with Argon2 one is left out, and those that 22 refuses
 # (vectors_open has them).
@@ -115,9 +114,9 @@ class Plain:
             need(self.phase == OPEN, 19)
             return 0, self.taken(f, room)
         except Refused as r:
-            if r.args[0] not in (17, 19):
+            if r.no not in (17, 19):
                 self.phase = CLOSED
-            return r.args[0], b""
+            return r.no, b""
 
     def taken(self, f, room):
         data = judge(self.keys, f, self.i, self.at)
@@ -137,10 +136,11 @@ class Plain:
 # the rows
 
 def answer(call, *args):
+    """The number, the place, and what is answered beside 0."""
     try:
-        return 0, call(*args)
+        return 0, 0, call(*args)
     except Refused as r:
-        return r.args[0], None
+        return r.no, r.place, None
 
 
 def room_of(k, size):
@@ -152,24 +152,24 @@ class Rows(list):
         self.append(f"{name} {form} {figure} {no} {result.hex()}")
 
     def opened(self, kind, name, f, t, room):
-        no, payload = answer(open_whole, f, t, room)
+        no, place, payload = answer(open_whole, f, t, room)
         payload = payload or b""
-        self.row(kind, name, len(payload), no, sha256(payload))
+        self.row(kind, name, place if no else len(payload), no, sha256(payload))
         self.row("output", name, room, 0, sha256(payload.ljust(OUTPUT, b"\xee")))
-        return no, payload
+        return no, place, payload
 
     def whole(self, name, f, t):
-        no, payload = self.opened("whole", name, f, t, OUTPUT)
-        must(self.opened("just", name, f, t, len(payload)) == (no, payload), name)
-        less, _ = self.opened("less", name, f, t, max(len(payload) - 1, 0))
+        no, place, payload = self.opened("whole", name, f, t, OUTPUT)
+        must(self.opened("just", name, f, t, len(payload)) == (no, place, payload), name)
+        less, _, _ = self.opened("less", name, f, t, max(len(payload) - 1, 0))
         must(less == (17 if payload else no), name)
-        return no, payload
+        return no, place, payload
 
     def steps(self, name, f, t, given):
         """The rows of a block-by-block opening; the last step's number, and all bytes handed over."""
-        no, begun = answer(begin, f, t)
+        no, place, begun = answer(begin, f, t)
         opener = Plain(*begun or (None, 0))
-        self.row("start", name, opener.at, no, opener.keys.base if begun else bytes(64))
+        self.row("start", name, opener.at if begun else place, no, opener.keys.base if begun else bytes(64))
         if begun is None:
             opener.phase = CLOSED
         calls, last, handed, told = 0, 0, b"", b""
@@ -194,9 +194,10 @@ class Rows(list):
             self.row(kind, name, len(handed), no, sha256(handed))
             return handed
 
-        no, payload = answer(open_whole, f, t, LARGE_OUTPUT)
+        no, _, payload = answer(open_whole, f, t, LARGE_OUTPUT)
         payload = shown("whole", no, payload)
-        shown("less", *answer(open_whole, f, t, max(len(payload) - 1, 0)))
+        no_less, _, handed = answer(open_whole, f, t, max(len(payload) - 1, 0))
+        shown("less", no_less, handed)
         opener = Plain(*begin(f, t))
         self.row("start", name, opener.at, 0, opener.keys.base)
         handed = b""
@@ -210,14 +211,15 @@ class Cases:
     def __init__(self):
         self.table, self.rows, self.names = [], Rows(), set()
 
-    def case(self, name, expected, f, t, given=None, steps_expected=None):
-        """A vault; the number of its opening; how many of its bytes the steps are given, and the number of these."""
+    def case(self, name, expected, f, t, given=None, steps_expected=None, place=0):
+        """A vault; the number of its opening; how many of its bytes the steps are given, and the number of these. The
+        place is compared but where it is None."""
         must(name not in self.names, name)
         self.names.add(name)
         given = len(f) if given is None else given
         self.table.append(f"{name} {text_field(t)} {text_field(f)} {given}")
-        no, payload = self.rows.whole(name, f, t)
-        must(no == expected, (name, no, expected))
+        no, at, payload = self.rows.whole(name, f, t)
+        must(no == expected and place in (None, at), (name, no, at, expected, place))
         last, handed = self.rows.steps(name, f, t, f[:given] if given <= len(f) else bytes(given))
         must(last == (no if steps_expected is None else steps_expected), (name, last))
         must(handed == payload or no or steps_expected, name)
@@ -327,42 +329,55 @@ def sound(cases):
     cases.case("custom", 0, front(A, custom) + blocks(A, text_of(A, b"abc"), [48]), T)
 
 
+def argon2(memory, more=b""):
+    """A dictionary of Argon2d with two lanes, the items in byte order of their names."""
+    items = [item(0x42, b"$UUID", ARGON2D), item(5, b"I", number(2, 8)), item(5, b"M", number(memory, 8))]
+    items += [item(4, b"P", number(2, 4)), item(0x42, b"S", b"\x33" * 32), item(4, b"V", number(0x13, 4)), more]
+    return b"\0\1" + b"".join(items) + b"\0"
+
+
 def damaged_headers(cases):
-    """A header's refusals; hash, tag and blocks are right for what stands there, but for the cut ones."""
+    """A header's refusals; hash, tag and blocks are right for what stands there, but for the cut ones. The fields stand
+    at 12, 33, 42, 79, 96 and 194, and the items of the KDF dictionary, whose value begins at 101, at 103, 133 and 151;
+    of Argon2's, I stands at 133, M at 151 and what is more at 239."""
     whole = made(C, b"payload")
     for n in (0, 11, 12, 16, 17, 60, 202):
-        cases.case(f"header-cut-{n}", 2, whole[:n], T)
+        cases.case(f"header-cut-{n}", 2, whole[:n], T, place=n)
 
-    def case(name, expected, keys=C, **changed):
-        cases.case(name, expected, front(keys, header(keys, **changed)) + blocks(keys, b"", [1]), T)
+    def case(name, expected, place, keys=C, **changed):
+        cases.case(name, expected, front(keys, header(keys, **changed)) + blocks(keys, b"", [1]), T, place=place)
 
-    case("signature", 3, signatures=bytes(8))
-    case("signature-and-version", 3, signatures=bytes(8), version=0)
-    case("version-3.1", 4, version=0x30001)
-    case("version-4.2", 4, version=0x40002)
-    case("end-bytes", 5, end=field(0, b"\r\n\r\0"))
-    case("seed-of-31", 5, f4=bytes(31))
-    case("nonce-of-aes", 5, f7=NONCE)
-    case("custom-negative", 5, more=field(12, b"", -1))
-    case("second-nonce", 6, more=field(7, NONCE[:12]))
-    case("second-name", 6, f11=kdf(more=item(5, b"R", bytes(8))))
-    case("field-1", 7, more=field(1, b""))
-    case("no-seed", 8, f4=None)
-    case("no-kdf", 8, f11=None)
-    case("twofish", 9, f2=TWOFISH)
-    case("compressed", 9, f3=number(1, 4))
-    case("unlisted-kdf", 9, f11=kdf(bytes(16)))
-    case("argon2d-without-items", 10, f11=kdf(ARGON2D))
-    case("kdf-seed-of-31", 10, f11=kdf(seed=bytes(31)))
-    case("custom-broken", 10, f12=b"\0\2\0")
-    case("rounds-over", 11, f11=kdf(rounds=4_000_001))
-    case("rounds-5999", 20, f11=kdf(rounds=5_999))
-    case("rounds-0-of-aes", 20, A, f11=kdf(rounds=0))
-    case("rounds-1-and-custom-broken", 20, f11=kdf(rounds=1), f12=b"")
+    case("signature", 3, 0, signatures=bytes(8))
+    case("second-signature", 3, 4, signatures=SIGNATURES[:4] + bytes(4))
+    case("signature-and-version", 3, 0, signatures=bytes(8), version=0)
+    case("version-3.1", 4, 8, version=0x30001)
+    case("version-4.2", 4, 8, version=0x40002)
+    case("end-bytes", 5, 194, end=field(0, b"\r\n\r\0"))
+    case("seed-of-31", 5, 42, f4=bytes(31))
+    case("nonce-of-aes", 5, 79, f7=NONCE)
+    case("custom-negative", 5, 194, more=field(12, b"", -1))
+    case("second-nonce", 6, 194, more=field(7, NONCE[:12]))
+    case("second-name", 6, 193, f11=kdf(more=item(5, b"R", bytes(8))))
+    case("second-name-of-custom", 6, 211, f12=b"\0\1" + 2 * item(0x18, b"a", b"") + b"\0")
+    case("field-1", 7, 194, more=field(1, b""))
+    case("no-seed", 8, 157, f4=None)
+    case("no-kdf", 8, 96, f11=None)
+    case("twofish", 9, 12, f2=TWOFISH)
+    case("compressed", 9, 33, f3=number(1, 4))
+    case("unlisted-kdf", 9, 103, f11=kdf(bytes(16)))
+    case("argon2d-a-then-k", 9, 249, f11=argon2(65_536, item(0x42, b"A", b"") + item(0x42, b"K", b"")))
+    case("argon2d-without-items", 10, 101, f11=kdf(ARGON2D))
+    case("kdf-seed-of-31", 10, 151, f11=kdf(seed=bytes(31)))
+    case("custom-broken", 10, 199, f12=b"\0\2\0")
+    case("rounds-over", 11, 133, f11=kdf(rounds=4_000_001))
+    case("argon2d-memory-under-lanes", 22, 151, f11=argon2(16_383))
+    case("rounds-5999", 20, 133, f11=kdf(rounds=5_999))
+    case("rounds-0-of-aes", 20, 137, A, f11=kdf(rounds=0))
+    case("rounds-1-and-custom-broken", 20, 133, f11=kdf(rounds=1), f12=b"")
     few = front(C, header(C, f11=kdf(rounds=5_999)))
-    cases.case("rounds-5999-cut", 20, few[:-64], T)
-    cases.case("rounds-5999-and-hash", 20, flipped(few, -64) + blocks(C, b"", [1]), T)
-    cases.case("rounds-5999-and-tag", 20, flipped(few, -1) + blocks(C, b"", [1]), T)
+    cases.case("rounds-5999-cut", 20, few[:-64], T, place=133)
+    cases.case("rounds-5999-and-hash", 20, flipped(few, -64) + blocks(C, b"", [1]), T, place=133)
+    cases.case("rounds-5999-and-tag", 20, flipped(few, -1) + blocks(C, b"", [1]), T, place=133)
 
 
 def damaged_tags(cases):
@@ -535,7 +550,8 @@ def from_vaults(cases, folder):
         expected = entry.get("expect", 0)
         if expected == 22 or vault.name == LEFT_OUT:
             continue
-        payload = cases.case(vault.name, expected, vault.file, vault.t or bytes(32))
+        place = None if expected else 0
+        payload = cases.case(vault.name, expected, vault.file, vault.t or bytes(32), place=place)
         if expected == 0:
             must(block_sizes(vault.file, vault.t) == entry["blocks"], vault.name)
             must(len(payload) == entry["payload_length"], vault.name)
