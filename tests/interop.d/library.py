@@ -12,11 +12,12 @@ WRITTEN_BLOCK = 1_048_576  # the data of a block that is written here, but for t
 
 
 class Refused(Exception):
-    """A number other than 0."""
+    """A number other than 0; of a reader the place too."""
 
-    def __init__(self, operation, number):
+    def __init__(self, operation, number, place):
         super().__init__(f"{operation}: refused with {number}")
         self.number = number
+        self.place = place
 
 
 class Driver:
@@ -31,7 +32,7 @@ class Driver:
         answer = json.loads(self.process.stdout.readline())
         assert "error" not in answer and "touched" not in answer, f"{operation}: {answer}"
         if answer["no"] != 0:
-            raise Refused(operation, answer["no"])
+            raise Refused(operation, answer["no"], answer.get("place"))
         return answer
 
     def close(self):

@@ -17,6 +17,8 @@ from peers import Credentials
 
 LEAST = 6_000
 TOO_FEW = 20
+# How the item R begins, in the header of any program: its type, its name and the size of its value.
+ROUNDS_ITEM = b"\x05\x01\0\0\0R\x08\0\0\0"
 # By cipher, so that each has a minor version and an inner algorithm of its own.
 TURNS = {"aes": 1, "chacha": 6}
 
@@ -50,24 +52,26 @@ def kdf_of(file):
     return {"kind": "aeskdf", "S": items[b"S"].hex(), "R": int.from_bytes(items[b"R"], "little")}
 
 
-def number_of(driver, operation, **asked):
+def refusal_of(driver, operation, **asked):
+    """The number and the place of a refusal."""
     try:
         driver.ask(operation, **asked)
     except library.Refused as refused:
-        return refused.number
-    return 0
+        return refused.number, refused.place
+    return 0, None
 
 
 def refuse(driver, path, form):
-    """The others open it, T is made of it here and is right, and every reader of the library answers 20."""
+    """The others open it, T is made of it here and is right, and every reader of the library answers 20 at the item R."""
     file, credentials = path.read_bytes(), form.credentials
+    place = file.index(ROUNDS_ITEM)
     by = exchange.at_once({name: (ask, path, credentials) for name, ask in key_files.programs().items()})
     composite, t = library.transformed(driver, credentials, kdf_of(file))
     same("T, beside one made apart", t, key_files.transformed(composite, key_files.header_fields(file)[0][11]))
     same("whether the tag is right", key_files.tag_is_right(file, composite), True)
     for operation, more in (("header", {}), ("open", {"T": t}), ("steps", {"T": t, "lents": [0]})):
-        same(f"the number of {operation}", number_of(driver, operation, data=file, **more), TOO_FEW)
-    same("the listing", driver.ask("list", data=file)["text"], f"R{TOO_FEW}\n")
+        same(f"the refusal of {operation}", refusal_of(driver, operation, data=file, **more), (TOO_FEW, place))
+    same("the listing", driver.ask("list", data=file)["text"], f"R{TOO_FEW} {place}\n")
     return exchange.Figures(size=len(file), by=by, note=f"(refused {TOO_FEW})")
 
 
@@ -100,8 +104,8 @@ def write(driver, path, form):
     header, payload = forms.header_of(form) | {"custom": forms.custom_of(form)}, forms.payload_of(driver, form, None)
     if form.kdf["R"] >= LEAST:
         return exchange.write(driver, path, form.credentials, header, payload)
-    number = number_of(driver, "write", **header, T=bytes(32), data=payload.whole)
-    same("the number", number, TOO_FEW)
+    refusal = refusal_of(driver, "write", **header, T=bytes(32), data=payload.whole)
+    same("the refusal", refusal, (TOO_FEW, None))
     return exchange.Figures(note=f"(refused {TOO_FEW})")
 
 
