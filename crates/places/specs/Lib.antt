@@ -1,0 +1,4 @@
+pub mod Places
+pub mod Items
+pub mod Begins
+pub mod Worked
