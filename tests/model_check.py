@@ -1,5 +1,5 @@
 """The model by itself: files of other programs, the worked numbers and the worked listing of document 01, those of
-document 02's Items 3, 6 and 7, and the published numbers of Salsa20, which the model makes itself.
+document 02's Items 3, 6, 7 and 8, and the published numbers of Salsa20, which the model makes itself.
 
 This is what `tests/differential --self` runs. The fixtures' manifest was made by their own programs.
 """
@@ -319,7 +319,8 @@ def check_rounds(tally):
         label, data = "%d rounds, " % rounds, with_rounds(sound, rounds)
         tally.same(label + "header", number_of(outer.read, data), number)
         lines = LISTING.replace("7017000000000000", rounds.to_bytes(8, "little").hex().upper())
-        tally.same(label + "listing", outer.listing(data), lines if number == 0 else "R%d\n" % number)
+        # Item 8: "Item 3's case prints R20 133."
+        tally.same(label + "listing", outer.listing(data), lines if number == 0 else "R%d 133\n" % number)
         tally.same(label + "whole", outcome(vault.open_whole, data, bytes(32)), number or bytes(5))
         tally.same(label + "by steps", outcome(stepped, data, bytes(32)), number or bytes(5))
         tally.same(label + "written", outcome(written, outer.CHACHA20, 5, rounds), number or data)
@@ -444,7 +445,7 @@ def check_listing(tally):
     data = written(outer.CHACHA20, 5)
     tally.same("listing", outer.listing(data[:203]), LISTING)
     tally.same("listing with bytes behind", outer.listing(data), LISTING)
-    tally.same("listing of nothing", outer.listing(b""), "R02\n")
+    tally.same("listing of nothing", outer.listing(b""), "R02 0\n")
     tally.same("listing of too much", outer.listing(data + bytes(65_536)), "R01\n")
     tally.same("AES-KDF", AES_KDF in data, True)
 

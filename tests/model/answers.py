@@ -1,6 +1,6 @@
 """The driver's operations: from a request to its answer, both as JSON objects.
 
-Bytes are lower-case hexadecimal. A refusal answers its number alone.
+Bytes are lower-case hexadecimal. A refusal answers its number, a reader's its place too, and nothing else.
 """
 
 from . import dictionary, header as outer, inner, keys, stream, vault
@@ -224,9 +224,14 @@ OPERATIONS = {
 }
 
 
+# Item 8: "in every reader". R: "header, lone check, lookup, start, whole opener, inner header, attachment".
+READERS = ("header", "dict", "lookup", "steps", "open", "inner", "attachment")
+
+
 def answer(request):
-    """The answer to a request. "On a refusal nothing else"."""
+    """The answer to a request. "On a refusal nothing else"; with Item 8 a reader's "also answers `place`, 0 where the
+    number carries none"."""
     try:
         return {"no": 0, **OPERATIONS[request["op"]](request)}
     except Refusal as refusal:
-        return {"no": refusal.number}
+        return {"no": refusal.number, **({"place": refusal.place} if request["op"] in READERS else {})}

@@ -1,4 +1,4 @@
-"""The outer header and its listing (document 01, "Header" and "Numbers to meet")."""
+"""The outer header and its listing (document 01, "Header" and "Numbers to meet"; document 02, Item 8)."""
 
 from . import dictionary
 from .limits import (
@@ -29,43 +29,49 @@ class Header:
         self.frames = [(0, 12)] + [(start - 5, end) for start, end in fields.values()]
         self.spans = fields
         value = {key: data[start:end] for key, (start, end) in fields.items()}
+        # Places: "for 8 the end field; otherwise the first byte of the field". R: "5 for the nonce: field 7. 9: the
+        # cipher's field, the compression field".
+        place = {key: start - 5 for key, (start, _) in fields.items()}
         # "After the end field: absence (8), cipher then compression (9), nonce size (5), KDF dictionary, custom
         # dictionary."
-        require(all(key in value for key in REQUIRED), ABSENT)
-        require(value[CIPHER] in CIPHER_NAMES, UNLISTED_ALGORITHM)
+        require(all(key in value for key in REQUIRED), ABSENT, place[END])
+        require(value[CIPHER] in CIPHER_NAMES, UNLISTED_ALGORITHM, place[CIPHER])
         self.cipher = CIPHER_NAMES[value[CIPHER]]
-        require(uint(value[COMPRESSION]) == 0, UNLISTED_ALGORITHM)
-        require(len(value[NONCE]) == NONCE_LENGTH[self.cipher], SIZE)
-        self.kdf = dictionary.kdf_figures(value[KDF])
+        require(uint(value[COMPRESSION]) == 0, UNLISTED_ALGORITHM, place[COMPRESSION])
+        require(len(value[NONCE]) == NONCE_LENGTH[self.cipher], SIZE, place[NONCE])
+        self.kdf = dictionary.kdf_figures(value[KDF], fields[KDF][0])
         if CUSTOM in value:
-            dictionary.items(value[CUSTOM])
+            dictionary.items(value[CUSTOM], fields[CUSTOM][0])
         self.seed = value[SEED]
         self.nonce = value[NONCE]
 
 
 def start(data):
-    """ "Order: length (1), 12 bytes present (2), signatures (3), version (4)": the minor version."""
+    """ "Order: length (1), 12 bytes present (2), signatures (3), version (4)": the minor version. Places: "for 2 its
+    length; for 3 the first signature that differs (0 or 4); for 4, 8"."""
     within(len(data), FILE_LIMIT)
-    require(len(data) >= 12, CUT_SHORT)
-    require((uint(data[0:4]), uint(data[4:8])) == SIGNATURES, SIGNATURE)
+    require(len(data) >= 12, CUT_SHORT, len(data))
+    for place, signature in zip((0, 4), SIGNATURES):
+        require(uint(data[place : place + 4]) == signature, SIGNATURE, place)
     version = uint(data[8:12])
-    require(version in VERSIONS, VERSION)
+    require(version in VERSIONS, VERSION, 8)
     return VERSIONS[version]
 
 
 def field(data, at, seen):
     """ "its five bytes present (2), ID listed (7), not repeated (6), size not negative and right for a fixed field
-    (5), value present (2), end bytes (5)": the ID and the value's start and end."""
-    require(at + 5 <= len(data), CUT_SHORT)
+    (5), value present (2), end bytes (5)": the ID and the value's start and end. Places: "for 2 its length", "otherwise
+    the first byte of the field". R: "6: the second one's first byte"."""
+    require(at + 5 <= len(data), CUT_SHORT, len(data))
     key = data[at]
-    require(key in FIELD_SIZE, UNLISTED_ID)
-    require(key not in seen, REPEATED)
+    require(key in FIELD_SIZE, UNLISTED_ID, at)
+    require(key not in seen, REPEATED, at)
     size = int32(data, at + 1)
-    require(size >= 0 and FIELD_SIZE[key] in (None, size), SIZE)
+    require(size >= 0 and FIELD_SIZE[key] in (None, size), SIZE, at)
     value, end = at + 5, at + 5 + size
-    require(end <= len(data), CUT_SHORT)
+    require(end <= len(data), CUT_SHORT, len(data))
     if key == END:
-        require(data[value:end] == END_BYTES, SIZE)
+        require(data[value:end] == END_BYTES, SIZE, at)
     return key, value, end
 
 
@@ -82,11 +88,12 @@ def read(data):
 
 def listing(data):
     """ "prints each frame as a line of upper-case hexadecimal: first signatures and version, then each field's ID,
-    size and value. Otherwise one line, R and two decimal digits." R: R01 for any input over 65,536 bytes."""
+    size and value. Otherwise one line, R and two decimal digits." Item 8: "The listing prints it after the number, one
+    space between, in decimal (1 has none)". R: R01 for any input over 65,536 bytes."""
     if len(data) > PROGRAM_LIMIT:
         return "R%02d\n" % OVER_LIMIT
     try:
         frames = read(data).frames
     except Refusal as refusal:
-        return "R%02d\n" % refusal.number
+        return "R%02d %d\n" % (refusal.number, refusal.place)
     return "".join(data[first:end].hex().upper() + "\n" for first, end in frames)

@@ -1,4 +1,4 @@
-"""The inner header (document 01, "Inner header")."""
+"""The inner header (document 01, "Inner header"; document 02, Item 8: "the inner header's too")."""
 
 from .limits import (
     ABSENT, CUT_SHORT, LENT_TOO_SHORT, PAYLOAD_LIMIT, REPEATED, SIZE, UNLISTED_ALGORITHM, UNLISTED_ID, int32, require,
@@ -17,9 +17,10 @@ RIGHT_SIZE = {
 
 
 class InnerHeader:
-    """An accepted inner header: spans are [start, length]."""
+    """An accepted inner header: spans are [start, length]; `end` is where the end field is."""
 
     def __init__(self):
+        self.end = None
         self.algorithm = None
         self.key_span = None
         self.attachments = []
@@ -28,14 +29,14 @@ class InnerHeader:
 
 def field(data, at, listed, seen):
     """ "The same field order applies": five bytes (2), ID (7), repeated (6), size (5), value present (2). The ID and
-    the value's start and end."""
-    require(at + 5 <= len(data), CUT_SHORT)
+    the value's start and end. The places are those of the outer header's fields."""
+    require(at + 5 <= len(data), CUT_SHORT, len(data))
     key = data[at]
-    require(key in listed, UNLISTED_ID)
-    require(key not in seen, REPEATED)
+    require(key in listed, UNLISTED_ID, at)
+    require(key not in seen, REPEATED, at)
     size = int32(data, at + 1)
-    require(RIGHT_SIZE[key](size), SIZE)
-    require(at + 5 + size <= len(data), CUT_SHORT)
+    require(RIGHT_SIZE[key](size), SIZE, at)
+    require(at + 5 + size <= len(data), CUT_SHORT, len(data))
     return key, at + 5, at + 5 + size
 
 
@@ -43,31 +44,34 @@ def read(data):
     """ "The payload's length (1) is checked first." """
     within(len(data), PAYLOAD_LIMIT)
     made = InnerHeader()
-    seen = set()
+    seen = {}  # the place of each field but attachments
     at = 0
     while made.document is None:
-        key, start, at = field(data, at, RIGHT_SIZE, seen)
+        place = at
+        key, start, at = field(data, place, RIGHT_SIZE, seen)
         if key == ATTACHMENT:  # "may recur"
             made.attachments.append([start + 1, at - start - 1, data[start]])
             continue
-        seen.add(key)
+        seen[key] = place
         if key == ALGORITHM:
             made.algorithm = int32(data, start)
         elif key == KEY:
             made.key_span = [start, at - start]
         else:
+            made.end = place
             made.document = at  # "The document is the rest, perhaps empty."
     # "with 1 and 2 required and not repeated; 9 follows 8"
-    require(ALGORITHM in seen and KEY in seen, ABSENT)
-    require(made.algorithm in ALGORITHMS, UNLISTED_ALGORITHM)
+    require(ALGORITHM in seen and KEY in seen, ABSENT, made.end)
+    require(made.algorithm in ALGORITHMS, UNLISTED_ALGORITHM, seen[ALGORITHM])
     return made
 
 
 def attachment(data, index):
-    """ "Attachments count from 0; an index past the last is 8, after all the reader's numbers." """
-    attachments = read(data).attachments
-    require(index < len(attachments), ABSENT)
-    return attachments[index]
+    """ "Attachments count from 0; an index past the last is 8, after all the reader's numbers." R: "8 for an attachment
+    index: the inner end field"."""
+    found = read(data)
+    require(index < len(found.attachments), ABSENT, found.end)
+    return found.attachments[index]
 
 
 def check_run(run):

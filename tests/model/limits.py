@@ -50,17 +50,19 @@ KDF_FIGURE = 22
 
 
 class Refusal(Exception):
-    """A refusal: its number, and nothing else in the answer."""
+    """A refusal: its number and its place. Item 8: "The place is the one answer beside the number that need not be
+    zero"."""
 
-    def __init__(self, number):
-        super().__init__(number)
+    def __init__(self, number, place):
+        super().__init__(number, place)
         self.number = number
+        self.place = place
 
 
-def require(holds, number):
-    """Refuse with the number unless the condition holds."""
+def require(holds, number, place=0):
+    """Refuse with the number and the place unless the condition holds; without a place it is zero."""
     if not holds:
-        raise Refusal(number)
+        raise Refusal(number, place)
 
 
 def within(length, limit):

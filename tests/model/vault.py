@@ -1,6 +1,6 @@
 """The file behind the header: the whole opener, the plain opener of demand 3, the writer.
 
-Document 01, "File after the header"; document 02, Items 3, 6 and 7.
+Document 01, "File after the header"; document 02, Items 3, 6, 7 and 8.
 """
 
 from dataclasses import dataclass, replace
@@ -30,7 +30,7 @@ def start(data, t):
     vault_keys = Keys(header, t)
     head = data[: header.length]
     blocks = header.length + 64
-    # "64 bytes, else 2; then 12, 13"
+    # "64 bytes, else 2; then 12, 13". Item 8: "from writers, hash, tag and blocks" the place "is zero", so here too.
     require(len(data) >= blocks, CUT_SHORT)
     require(data[header.length : header.length + 32] == sha256(head), HEADER_HASH)
     require(data[header.length + 32 : blocks] == keys.header_tag(vault_keys.tag_base, head), HEADER_TAG)
