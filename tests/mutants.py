@@ -3,7 +3,8 @@
 This is what `tests/differential --mutants` runs: an edited copy of tests/model answers in the driver's place. It shows
 that the inputs would find such a fault in the library too. The edits are in mutants.edits, and in mutants-large.edits
 those that only the large inputs tell apart: `# fault`, then `file:`, `old:` (text that occurs once) and `new:`. A line
-`asked:` behind the file names the operations whose inputs have to tell this one apart.
+`asked:` behind the file names the operations whose inputs have to tell this one apart, and a line `each:` in its place
+those of which each has to by itself.
 """
 
 import os
@@ -20,7 +21,9 @@ HERE = os.path.dirname(os.path.abspath(__file__))
 CHUNK = 2000
 CHUNKS = 8  # a fault that this many chunks do not show is not told apart
 BORDER_CHUNK = 4  # they are large, so no more are held at once
-EDIT = re.compile(r"^# ([^\n]*)\nfile: ([^\n]*)\n(?:asked: ([^\n]*)\n)?old:\n(.*)\nnew:\n(.*)\Z", re.DOTALL)
+EDIT = re.compile(
+    r"^# ([^\n]*)\nfile: ([^\n]*)\n(?:(asked|each): ([^\n]*)\n)?old:\n(.*)\nnew:\n(.*)\Z", re.DOTALL
+)
 
 
 class Mutant:
@@ -29,7 +32,7 @@ class Mutant:
     def __init__(self, folder, fault, file, asked, old, new):
         self.folder = folder
         self.fault = fault
-        self.asked = asked and asked.split(", ")
+        self.asked = asked
         shutil.copytree(os.path.join(HERE, "model"), os.path.join(folder, "model"))
         path = os.path.join(folder, "model", file)
         with open(path) as source:
@@ -55,14 +58,23 @@ class Mutant:
         return None
 
 
-def mutants(folder, name):
-    """The edited models of a file of edits."""
+def edits(name):
+    """The edits of a file: fault, model's file, operations asked (None: all), old text, new text."""
     with open(os.path.join(HERE, name)) as file:
         parts = file.read().rstrip("\n").split("\n\n# ")
-    parts = [parts[0]] + ["# " + part for part in parts[1:]]
-    return [
-        Mutant(os.path.join(folder, str(place)), *EDIT.match(part).groups()) for place, part in enumerate(parts)
-    ]
+    for part in [parts[0]] + ["# " + part for part in parts[1:]]:
+        fault, file, way, ops, old, new = EDIT.match(part).groups()
+        if way == "each":
+            for op in ops.split(", "):
+                yield "%s, %s" % (fault, op), file, [op], old, new
+        else:
+            yield fault, file, ops and ops.split(", "), old, new
+
+
+def mutants(folder, name, wanted):
+    """The edited models of a file of edits: those with this text in the name of their fault."""
+    chosen = [edit for edit in edits(name) if wanted in edit[0]]
+    return [Mutant(os.path.join(folder, str(place)), *edit) for place, edit in enumerate(chosen)]
 
 
 def chunks(seed, first, limit, size):
@@ -79,12 +91,12 @@ def shown(mutant, index):
     return index is not None
 
 
-def try_edits(name, inputs, drive, answers_of):
+def try_edits(name, wanted, inputs, drive, answers_of):
     """Try each edit of a file: how many are told apart, and how many not."""
     with tempfile.TemporaryDirectory() as folder:
-        left = mutants(folder, name)
+        left = mutants(folder, name, wanted)
         count = len(left)
-        for chunk in inputs:
+        for chunk in inputs if left else ():
             left = [mutant for mutant in left if not shown(mutant, mutant.told_apart(drive, answers_of, chunk))]
             if not left:
                 break
@@ -93,12 +105,12 @@ def try_edits(name, inputs, drive, answers_of):
     return count - len(left), len(left)
 
 
-def try_mutants(seed, drive, answers_of):
-    """Try every edit; True where all are told apart."""
+def try_mutants(seed, wanted, drive, answers_of):
+    """Try every edit with this text in the name of its fault; True where all are told apart."""
     first = len(FIXED)
     small = chunks(seed, first, first + CHUNK * CHUNKS, CHUNK)
-    told, missed = try_edits("mutants.edits", small, drive, answers_of)
+    told, missed = try_edits("mutants.edits", wanted, small, drive, answers_of)
     large = chunks(seed, 0, len(BORDERS), BORDER_CHUNK)
-    large_told, large_missed = try_edits("mutants-large.edits", large, drive, answers_of)
+    large_told, large_missed = try_edits("mutants-large.edits", wanted, large, drive, answers_of)
     print("%d told apart, %d not" % (told + large_told, missed + large_missed))
     return missed + large_missed == 0
