@@ -105,11 +105,17 @@ def try_edits(name, wanted, inputs, drive, answers_of):
     return count - len(left), len(left)
 
 
+def small_inputs(seed):
+    """A chunk of random inputs, the fixed ones but the large, more random ones."""
+    first = len(FIXED)
+    yield from chunks(seed, first, first + CHUNK, CHUNK)
+    yield from chunks(seed, len(BORDERS), first, CHUNK)
+    yield from chunks(seed, first + CHUNK, first + CHUNK * CHUNKS, CHUNK)
+
+
 def try_mutants(seed, wanted, drive, answers_of):
     """Try every edit with this text in the name of its fault; True where all are told apart."""
-    first = len(FIXED)
-    small = chunks(seed, first, first + CHUNK * CHUNKS, CHUNK)
-    told, missed = try_edits("mutants.edits", wanted, small, drive, answers_of)
+    told, missed = try_edits("mutants.edits", wanted, small_inputs(seed), drive, answers_of)
     large = chunks(seed, 0, len(BORDERS), BORDER_CHUNK)
     large_told, large_missed = try_edits("mutants-large.edits", wanted, large, drive, answers_of)
     print("%d told apart, %d not" % (told + large_told, missed + large_missed))

@@ -14,6 +14,7 @@ from model.limits import FILE_LIMIT, STREAM_LIMIT, WRITTEN_BLOCK, Refusal
 from . import edits
 from .borders import BORDERS, seeds
 from .few_rounds import FEW_ROUNDS
+from .places import PLACES
 from .shapes import (
     Block, argon2_figures, attachment_run, enough_rounds, few_rounds, kdf_dictionary, sound_dictionary, sound_inner,
     sound_vault,
@@ -657,7 +658,7 @@ SHARES = {
 TABLE = [(op, make) for op, (share, make) in SHARES.items() for _ in range(share)]
 
 
-FIXED = BORDERS + FEW_ROUNDS  # asked in every run
+FIXED = BORDERS + FEW_ROUNDS + PLACES  # asked in every run
 
 
 def request(seed, index):
