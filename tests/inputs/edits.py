@@ -94,6 +94,13 @@ def item_repeated(rng, made):
     made.items.insert(rng.randrange(len(made.items) + 1), item)
 
 
+def items_repeated(rng, made):
+    """Several sound items again, each anywhere: which is met first is not which name is."""
+    some_item(rng, made)
+    for item in rng.choices(made.items, k=rng.choice((2, 2, 3))):
+        made.items.insert(rng.randrange(len(made.items) + 1), item.copy())
+
+
 def item_added(rng, made):
     made.items.insert(rng.randrange(len(made.items) + 1), sound_item(rng))
 
@@ -109,7 +116,7 @@ def item_zero_type(rng, made):
 
 DICTIONARY = (
     version, end, item_type, item_resized, item_value_size, item_name_size, item_name, item_removed, item_repeated,
-    item_repeated, item_added, items_moved, item_zero_type,
+    items_repeated, item_added, items_moved, item_zero_type,
 )
 
 
@@ -219,9 +226,17 @@ def kdf_items_of_both(rng, made):
         kdf_identifier(rng, made)
 
 
+def kdf_several(rng, made):
+    """Several faults at once of what a KDF asks for: the first one looked at is given."""
+    for _ in range(rng.randrange(2, 5)):
+        rng.choice((kdf_item_type, kdf_item_removed, kdf_figure, kdf_salt, kdf_item_forbidden))(rng, made)
+    if rng.random() < 0.5:
+        items_moved(rng, made)
+
+
 KDF = DICTIONARY + 12 * (kdf_figure,) + 2 * (kdf_few_rounds,)
 KDF += 4 * (kdf_identifier, kdf_salt, kdf_scarce_memory, kdf_item_type, kdf_item_removed, kdf_item_forbidden)
-KDF += 2 * (kdf_items_of_both,)
+KDF += 2 * (kdf_items_of_both,) + 8 * (kdf_several,)
 
 
 # ----- fields of either header

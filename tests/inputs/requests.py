@@ -16,8 +16,8 @@ from .borders import BORDERS, seeds
 from .few_rounds import FEW_ROUNDS
 from .places import PLACES
 from .shapes import (
-    Block, argon2_figures, attachment_run, enough_rounds, few_rounds, kdf_dictionary, sound_dictionary, sound_inner,
-    sound_vault,
+    Block, argon2_figures, attachment_run, enough_rounds, few_rounds, kdf_dictionary, long_dictionary,
+    sound_dictionary, sound_inner, sound_vault,
 )
 
 LARGE = 2**40  # a lent length past memory: large enough
@@ -58,7 +58,9 @@ def request_header(rng):
 
 
 def some_dictionary(rng):
-    """A dictionary of either kind, before edits. It is sound with few rounds too."""
+    """A dictionary of either kind, before edits, a few with many items. It is sound with few rounds too."""
+    if rng.random() < 0.03:
+        return long_dictionary(rng)
     if rng.random() >= 0.3:
         return sound_dictionary(rng, 7)
     made = kdf_dictionary(rng)

@@ -178,6 +178,12 @@ def sound_dictionary(rng, most=5):
     return made
 
 
+def long_dictionary(rng):
+    """A sound dictionary of many items, the names of which are numbers in any order."""
+    names = rng.sample(range(2000), rng.choice((rng.randrange(8, 40), rng.randrange(8, 300))))
+    return Dictionary([Item(0x08, b"%d" % name, b"\x01") for name in names])
+
+
 # Enough rounds, of which a part is too few: the low byte, the low 16 bits, these with a sign. 71,535 is 0x1176F.
 FEW_IN_PART = (6_144, 32_768, 65_535, 65_536, 65_537, 71_535)
 # Too few, of which a part is enough: the low byte of 0x16FF and of 255, both bytes of 24 exchanged.
@@ -253,7 +259,7 @@ def sound_vault(rng):
         Field(outer.KDF, kdf_dictionary(rng)),
     ]
     if rng.random() < 0.4:
-        fields.append(Field(outer.CUSTOM, sound_dictionary(rng)))
+        fields.append(Field(outer.CUSTOM, sound_dictionary(rng) if rng.random() < 0.97 else long_dictionary(rng)))
     if rng.random() < 0.6:
         rng.shuffle(fields)
     fields.append(Field(outer.END, outer.END_BYTES))
