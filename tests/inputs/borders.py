@@ -1,6 +1,6 @@
 """The few large requests: at each limit of document 01 and of Items 1, 6 and 7, and one past it; written payloads
-around a written block, and files in blocks of other sizes. With them the small ones at the lengths of Item 2 and the
-positions of Item 1.
+around a written block, and files in blocks of other sizes; places of Item 8 far from the front. With them the small
+ones at the lengths of Item 2 and the positions of Item 1.
 
 A large one is some 32 MB of text, so each is made when it is asked.
 """
@@ -30,10 +30,12 @@ def zeros(length):
     return {"zeros": length}
 
 
-def dictionary_of(length):
-    """A sound dictionary of that length with a single item."""
-    empty = len(Dictionary([Item(0x42, b"a", b"")]).octets())
-    return Dictionary([Item(0x42, b"a", bytes(length - empty))]).octets()
+def dictionary_of(length, behind=b""):
+    """A dictionary of that length with a single item, and these bytes behind it."""
+    made = Dictionary([Item(0x42, b"a", b"")])
+    made.end = behind + made.end
+    made.items[0].value = bytes(length - len(made.octets()))
+    return made.octets()
 
 
 def many_items(count):
@@ -52,9 +54,9 @@ def plain_vault(rng, cipher):
     return made
 
 
-def with_custom(made, length):
-    """The file with a custom dictionary that makes its header that long."""
-    made.header.fields.insert(0, Field(CUSTOM, dictionary_of(length - len(made.header.octets()) - 5)))
+def with_custom(made, length, behind=b""):
+    """The file with a custom dictionary that makes its header that long, with these bytes behind its item."""
+    made.header.fields.insert(0, Field(CUSTOM, dictionary_of(length - len(made.header.octets()) - 5, behind)))
     return made
 
 
@@ -105,6 +107,39 @@ def long_header_vault(op, length):
 def not_a_file(op, length):
     """Zeros over the limit: the length is judged first."""
     return lambda rng: {"op": op, "data": zeros(length), "T": bytes(32).hex(), "lents": [0, 0]}
+
+
+def far_cut(op, length):
+    """A file of that length that ends inside its custom dictionary."""
+
+    def make(rng):
+        made = plain_vault(rng, "chacha")
+        made.header.fields[-1] = cut = Field(CUSTOM, b"")
+        cut.size, cut.value = 2**31 - 1, bytes(length - len(made.octets()))
+        return asked_file(op, made, lents=[0])
+
+    return make
+
+
+def far_field(op, length):
+    """A header of that length with its hash and tag: before the end field one that is repeated."""
+
+    def make(rng):
+        made = plain_vault(rng, "chacha")
+        made.header.fields.insert(-1, made.header.fields[0])
+        return asked_file(op, with_custom(made, length - 64), lents=[0])
+
+    return make
+
+
+def far_item(op, length, item):
+    """A header of that length with its hash and tag: its custom dictionary has this item behind a long one."""
+    return lambda rng: asked_file(op, with_custom(plain_vault(rng, "chacha"), length - 64, item), lents=[0])
+
+
+def lone_item(op, length, item):
+    """A dictionary of that length, with this item behind a long one."""
+    return lambda rng: {"op": op, "data": dictionary_of(length, item).hex(), "name": b"a".hex()}
 
 
 def large_vault(rng, cipher, length, blocks):
@@ -308,6 +343,19 @@ def long_field(op, key, length):
         fields = [Field(1, b"\x02\x00\x00\x00")]
         fields += [Field(one, rng.randbytes(size)) for one, size in sizes.items()] + [Field(0, b"")]
         return {"op": op, "data": b"".join(field.octets() for field in fields).hex(), "index": 0}
+
+    return make
+
+
+def far_attachment(op, length, key, size=None):
+    """A payload of that length without a document: behind a long attachment a key, a field of that ID and size, an end
+    field. There is no second attachment."""
+
+    def make(rng):
+        made = [Field(1, b"\x02\x00\x00\x00"), Field(3, b""), Field(2, b""), Field(key, b""), Field(0, b"")]
+        made[3].size = size
+        made[1].value = bytes(length - sum(len(field.octets()) for field in made))
+        return {"op": op, "data": b"".join(field.octets() for field in made).hex(), "index": 1}
 
     return make
 
@@ -559,6 +607,21 @@ INNER = (
     inner_write_of(FORMER_LIMIT + 1),
 )
 
+REPEATED_ITEM, UNLISTED_ITEM = Item(0x08, b"a", b"\x01").octets(), Item(0x43, b"b", b"").octets()
+
+# Places up to a file's limit, and behind it in a dictionary by itself, which has none.
+FAR = tuple(
+    make
+    for op, length in (("header", FILE_LIMIT), ("open", FILE_LIMIT), ("steps", FILE_LIMIT), ("list", PROGRAM_LIMIT))
+    for make in (far_cut(op, length), far_field(op, length), far_item(op, length, UNLISTED_ITEM))
+) + tuple(
+    lone_item(op, FILE_LIMIT + 100, item) for op in ("dict", "lookup") for item in (REPEATED_ITEM, UNLISTED_ITEM)
+) + tuple(
+    make
+    for op in ("inner", "attachment")
+    for make in (far_attachment(op, PAYLOAD_LIMIT, 3), far_attachment(op, PAYLOAD_LIMIT, 3, 2**31 - 1))
+) + (far_attachment("attachment", PAYLOAD_LIMIT, 0),)
+
 DICTIONARIES = (
     lambda rng: {"op": "dict", "data": dictionary_of(FILE_LIMIT + 1).hex()},
     lambda rng: {"op": "dict", "data": many_items(1500).hex()},
@@ -612,6 +675,6 @@ STREAMS = (
 )
 
 BORDERS = (
-    *HEADERS, *OPENED, *STEPPED, *CUTS, *WRITTEN, *TIES, *CREDENTIALS, *MESSAGES, *TRANSFORMED, *INNER, *DICTIONARIES,
-    *STREAMS,
+    *HEADERS, *FAR, *OPENED, *STEPPED, *CUTS, *WRITTEN, *TIES, *CREDENTIALS, *MESSAGES, *TRANSFORMED, *INNER,
+    *DICTIONARIES, *STREAMS,
 )

@@ -404,7 +404,7 @@ ARGON2_PLACES = tuple(
     for op in READERS
     for number, (identifier, order) in enumerate(zip((ARGON2D, ARGON2ID, ARGON2D), ARGON2_ORDERS))
     for faults in ARGON2_FAULTS
-    if op == "header" or number == 1
+    if op == "header" or number == 1 or faults == (SCARCE,)
 )
 
 
