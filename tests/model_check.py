@@ -6,13 +6,15 @@ This is what `tests/differential --self` runs. The fixtures' manifest was made b
 
 import json
 import os
+import struct
 from random import Random
 
-from inputs.requests import some_vault
+from inputs.places import PLACES
+from inputs.requests import SHARES, some_vault
 from inputs.shapes import Block, sound_vault
 from model import header as outer, inner, keys, salsa20, stream, vault
-from model.answers import answer
-from model.dictionary import AES_KDF, ARGON2D, ARGON2ID, kdf_figures
+from model.answers import READERS, answer
+from model.dictionary import AES_KDF, ARGON2D, ARGON2ID, SIZE_OF_TYPE, kdf_figures
 from model.limits import STREAM_LIMIT, Refusal
 from model.primitives import cbc_encrypt, sha256
 
@@ -450,6 +452,298 @@ def check_listing(tally):
     tally.same("AES-KDF", AES_KDF in data, True)
 
 
+# ----- Item 8, places
+
+# The worked header in numbers: the field of the cipher is at 12, compression 33, master seed 42, nonce 79, KDF 96, end
+# 194. The KDF dictionary's value begins at 101; its items are at 103 ($UUID), 133 (R) and 151 (S), its end at 193.
+WORKED = bytes.fromhex(LISTING)
+# The same with Argon2's least figures, as the writer lays them: $UUID is at 103, I 133, M 151, P 169, S 183, V 201, the
+# end at 215.
+WORKED_ARGON2 = vault.written_argon2(ARGON2D, bytes(8), 1, 8_192, 1)
+
+
+def put(data, *places):
+    """The data with other bytes, in hexadecimal, at these places."""
+    made = bytearray(data)
+    for place, octets in places:
+        made[place : place + len(octets) // 2] = bytes.fromhex(octets)
+    return bytes(made)
+
+
+def with_kdf(kdf):
+    """The worked header with that KDF dictionary."""
+    return WORKED[:96] + vault.written_field(11, kdf) + WORKED[194:]
+
+
+def with_custom(at, custom):
+    """The worked header with that custom dictionary in a field at that place."""
+    return WORKED[:at] + vault.written_field(12, custom) + WORKED[at:]
+
+
+def check_readers(tally, label, data, number, place):
+    """Header, start, whole opener and listing of a refused header."""
+    right = {"no": number, "place": place}
+    asked = {"data": data.hex(), "T": bytes(32).hex(), "lents": [100]}
+    for op in ("header", "steps", "open"):
+        tally.same("place, %s: %s" % (op, label), answer({"op": op, **asked}), right)
+    tally.same("place, list: " + label, outer.listing(data), "R%02d %d\n" % (number, place))
+
+
+def check_field_places(tally):
+    """The worked header with a fault of its fields. "for 2 its length; for 3 the first signature that differs (0 or 4);
+    for 4, 8; for 8 the end field; otherwise the first byte of the field"."""
+    nonce_of_16 = WORKED[:79] + vault.written_field(7, bytes(16)) + WORKED[96:]
+    for label, data, number, place in (
+        *(("%d bytes" % length, WORKED[:length], 2, length) for length in (0, 11, 12, 16, 17, 32, 100, 194, 198, 202)),
+        ("a value longer than the file", put(WORKED, (80, "ffffff7f")), 2, 203),
+        ("the first signature", put(WORKED, (3, "00")), 3, 0),
+        ("the second signature", put(WORKED, (7, "00")), 3, 4),
+        ("both signatures", put(WORKED, (3, "00"), (7, "00")), 3, 0),
+        ("version 4.2", put(WORKED, (8, "02")), 4, 8),
+        ("version 3.1", put(WORKED, (10, "03")), 4, 8),
+        ("field 1 for 3", put(WORKED, (33, "01")), 7, 33),
+        ("field 2 for 3", put(WORKED, (33, "02")), 6, 33),
+        ("field 3 for 0", put(WORKED, (194, "03")), 6, 194),
+        ("a cipher of 15 bytes", put(WORKED, (13, "0f")), 5, 12),
+        ("a negative size of the nonce", put(WORKED, (80, "ffffffff")), 5, 79),
+        ("an end field of 3 bytes", put(WORKED, (195, "03")), 5, 194),
+        ("other end bytes", put(WORKED, (202, "0d")), 5, 194),
+        ("no cipher", WORKED[:12] + WORKED[33:], 8, 173),
+        ("no nonce", WORKED[:79] + WORKED[96:], 8, 177),
+        ("no KDF", WORKED[:96] + WORKED[194:], 8, 96),
+        ("another cipher", put(WORKED, (17, "00")), 9, 12),
+        ("another cipher and compression", put(WORKED, (17, "00"), (38, "01")), 9, 12),
+        ("compression", put(WORKED, (41, "01")), 9, 33),
+        ("a nonce of 16 bytes", nonce_of_16, 5, 79),
+        ("a nonce of 16 bytes and bytes behind", nonce_of_16 + bytes(9), 5, 79),
+    ):
+        check_readers(tally, label, data, number, place)
+
+
+def check_kdf_places(tally):
+    """The worked header with a fault of its KDF dictionary: "the first byte ... of the dictionary item at fault"; one
+    "that belongs to no item points to where the dictionary's value begins"; "Item 3's case prints R20 133." """
+    kdf = WORKED[101:194]
+    for label, data, number, place in (
+        ("version 2", put(WORKED, (102, "02")), 10, 101),
+        ("no end", with_kdf(kdf[:-1]), 10, 101),
+        ("a byte behind the end", with_kdf(kdf + b"\x00"), 10, 101),
+        ("no byte", with_kdf(b""), 10, 101),
+        ("type 43 of the first item", put(WORKED, (103, "43")), 10, 103),
+        ("type 1 for the end", put(WORKED, (193, "01")), 10, 193),
+        ("an item cut before its value", with_kdf(kdf[:60]), 10, 151),
+        ("an item cut in its value size", with_kdf(kdf[:58]), 10, 151),
+        ("an item cut in its name size", with_kdf(kdf[:35]), 10, 133),
+        ("an item cut behind its type", with_kdf(kdf[:33]), 10, 133),
+        ("a UInt32 of 8 bytes", put(WORKED, (133, "04")), 10, 133),
+        ("a negative name size", put(WORKED, (152, "ffffffff")), 10, 151),
+        ("a value that takes the end", put(WORKED, (157, "21")), 10, 101),
+        ("a value past the end", put(WORKED, (157, "22")), 10, 151),
+        ("S named R", put(WORKED, (156, "52")), 6, 151),
+        ("S named R, with another type", put(WORKED, (151, "18"), (156, "52")), 6, 151),
+        ("no $UUID", put(WORKED, (112, "45")), 10, 101),
+        ("$UUID as a string", put(WORKED, (103, "18")), 10, 103),
+        ("another KDF", put(WORKED, (117, "00")), 9, 103),
+        ("no S", put(WORKED, (156, "54")), 10, 101),
+        ("S as a string", put(WORKED, (151, "18")), 10, 151),
+        ("no R", put(WORKED, (138, "51")), 10, 101),
+        ("R as Int64", put(WORKED, (133, "0d")), 10, 133),
+        ("S before R", put(WORKED, (133, "0d"), (151, "18")), 10, 151),
+        ("no S before R", put(WORKED, (133, "0d"), (156, "54")), 10, 101),
+        ("S before no R", put(WORKED, (138, "51"), (151, "18")), 10, 151),
+        ("4,000,001 rounds", put(WORKED, (143, "01093d00")), 11, 133),
+        ("5,999 rounds", put(WORKED, (143, "6f17")), 20, 133),
+        ("one round", put(WORKED, (143, "0100")), 20, 133),
+    ):
+        check_readers(tally, label, data, number, place)
+
+
+def check_custom_places(tally):
+    """The worked header with a custom dictionary, in a field at 194 or at 12, where its value begins at 199 or 17."""
+    first, second = vault.written_item(0x08, b"a", b"\x01"), vault.written_item(0x04, b"b", bytes(4))  # 11 and 14 bytes
+    for label, custom, number, place in (
+        ("no byte", b"", 10, 0),
+        ("no end", b"\x00\x01" + first, 10, 0),
+        ("a byte behind the end", b"\x00\x01" + first + b"\x00\x00", 10, 0),
+        ("type 43", b"\x00\x01" + first + b"\x43" + second[1:] + b"\x00", 10, 13),
+        ("a repeated item", b"\x00\x01" + first + second + first + b"\x00", 6, 27),
+        ("two repeated items", b"\x00\x01" + first + second + second + first + b"\x00", 6, 27),
+        ("two repeated items, turned round", b"\x00\x01" + first + second + first + second + b"\x00", 6, 27),
+        ("a repeated item behind the first", b"\x00\x01" + first + first + second + second + b"\x00", 6, 13),
+        ("a repeated item with a wrong size", b"\x00\x01" + first + second + put(first, (6, "02")) + b"\x00", 10, 27),
+    ):
+        for at in (194, 12):
+            check_readers(tally, "custom at %d, %s" % (at, label), with_custom(at, custom), number, at + 5 + place)
+        for op in ("dict", "lookup"):
+            given = answer({"op": op, "data": custom.hex(), "name": b"a".hex()})
+            tally.same("place, %s: %s" % (op, label), given, {"no": number, "place": place})
+    # The KDF dictionary comes first, wherever the custom one stands.
+    check_readers(tally, "no R before a broken custom dictionary", put(with_custom(194, b""), (138, "51")), 10, 101)
+    check_readers(tally, "no R behind a broken custom dictionary", put(with_custom(12, b""), (143, "51")), 10, 106)
+
+
+def check_argon2_places(tally):
+    """Item 6's order: 10 for V, S, I, M, P, 9 for V, K, A, 22 for S, I, M, P; "too little M for P, checked last, points
+    to M"."""
+    worked = with_kdf(WORKED_ARGON2)
+    key, data = vault.written_item(0x42, b"K", b""), vault.written_item(0x42, b"A", b"")  # 10 bytes each
+    types = {"V": (201, "0c"), "S": (183, "18"), "I": (133, "0d"), "M": (151, "0d"), "P": (169, "0c")}
+    names = {"V": (206, "76"), "S": (188, "73"), "I": (138, "69"), "M": (156, "6d"), "P": (174, "70")}
+    salt_of_7 = with_kdf(vault.written_argon2(ARGON2ID, bytes(7), 0, 8_191, 17))
+    for index, name in enumerate(types):
+        behind = list(types.values())[index + 1 :]
+        check_readers(tally, "wrongly typed " + name, put(worked, types[name], *behind), 10, types[name][0])
+        check_readers(tally, "absent " + name, put(worked, names[name], *behind), 10, 101)
+    for label, made, number, place in (
+        ("V 0x10", put(worked, (211, "10")), 9, 201),
+        ("V 0x10 and K", with_kdf(put(WORKED_ARGON2[:-1] + key + b"\x00", (110, "10"))), 9, 201),
+        ("K behind", with_kdf(WORKED_ARGON2[:-1] + key + b"\x00"), 9, 215),
+        ("A behind", with_kdf(WORKED_ARGON2[:-1] + data + b"\x00"), 9, 215),
+        ("A and K behind", with_kdf(WORKED_ARGON2[:-1] + data + key + b"\x00"), 9, 225),
+        ("K and A behind", with_kdf(WORKED_ARGON2[:-1] + key + data + b"\x00"), 9, 215),
+        ("A before all, K behind", with_kdf(WORKED_ARGON2[:2] + data + WORKED_ARGON2[2:-1] + key + b"\x00"), 9, 225),
+        ("K and no pass", put(with_kdf(WORKED_ARGON2[:-1] + key + b"\x00"), (143, "00")), 9, 215),
+        ("all figures", salt_of_7, 22, 183),
+        ("I, M, P", put(worked, (143, "00"), (161, "ff1f"), (179, "11")), 22, 133),
+        ("M, P", put(worked, (161, "ff1f"), (179, "11")), 22, 151),
+        ("17 lanes", put(worked, (179, "11")), 22, 169),
+        ("no lane", put(worked, (179, "00")), 22, 169),
+        ("two lanes", put(worked, (179, "02")), 22, 151),
+        ("a byte too little for two", put(worked, (161, "ff3f"), (179, "02")), 22, 151),
+        ("no pass and two lanes", put(worked, (143, "00"), (179, "02")), 22, 133),
+    ):
+        check_readers(tally, "Argon2, " + label, made, number, place)
+
+
+def check_inner_places(tally):
+    """An inner header: algorithm at 0, key at 9, attachments at 17 and 24, end at 31, document at 36."""
+    attached = "030200000000ff"
+    sound = bytes.fromhex("010400000002000000" "0203000000aabbcc" + 2 * attached + "0000000000") + b"doc"
+    for label, data, number, place in (
+        *(("%d bytes" % length, sound[:length], 2, length) for length in (0, 4, 8, 20, 31, 35)),
+        ("a value longer than the payload", put(sound, (25, "ffffff7f")), 2, 39),
+        ("field 4", put(sound, (24, "04")), 7, 24),
+        ("a second key", put(sound, (24, "02")), 6, 24),
+        ("a second algorithm", put(sound, (17, "01")), 6, 17),
+        ("an algorithm of 3 bytes", put(sound, (1, "03")), 5, 0),
+        ("an empty attachment", put(sound, (25, "00")), 5, 24),
+        ("a negative size", put(sound, (10, "ffffffff")), 5, 9),
+        ("an end field of 1 byte", put(sound, (32, "01")), 5, 31),
+        ("no key", sound[:9] + sound[17:], 8, 23),
+        ("no algorithm", sound[9:], 8, 22),
+        ("algorithm 4", put(sound, (5, "04")), 9, 0),
+        ("algorithm 4 at 8", sound[9:17] + put(sound, (5, "04"))[:9] + sound[17:], 9, 8),
+        ("no key and algorithm 4", put(sound[:9] + sound[17:], (5, "04")), 8, 23),
+    ):
+        for op in ("inner", "attachment"):
+            given = answer({"op": op, "data": data.hex(), "index": 5})
+            tally.same("place, %s: %s" % (op, label), given, {"no": number, "place": place})
+    for index in (2, 3, 2**64 - 1):
+        given = answer({"op": "attachment", "data": sound.hex(), "index": index})
+        tally.same("attachment %d" % index, given, {"no": 8, "place": 31})
+
+
+def check_no_places(tally):
+    """ "from writers, hash, tag and blocks it is zero"; 1 and 12 to 17 carry none. A step and a writer answer none at
+    all."""
+    data, block = written(outer.CHACHA20, 5), 203 + 64
+    asked = {"T": bytes(32).hex(), "lent": 4, "lents": [4, 4], "index": 0}
+    for label, number, made in (
+        ("no hash", 2, data[:203]),
+        ("63 bytes", 2, data[: block - 1]),
+        ("another hash", 12, put(data, (203, "00"))),
+        ("another tag", 13, put(data, (235, "00"))),
+    ):
+        for op in ("steps", "open"):
+            given = answer({"op": op, "data": made.hex(), **asked})
+            tally.same("no place, %s: %s" % (op, label), given, {"no": number, "place": 0})
+    for label, number, made in (
+        ("no block", 2, data[:block]),
+        ("a negative size", 5, put(data, (block + 35, "ff"))),
+        ("a cut block", 2, data[: block + 38]),
+        ("another block", 14, put(data, (block, "00"))),
+        ("a byte behind", 15, data + b"\x00"),
+        ("no room", 17, data),
+    ):
+        given = answer({"op": "open", "data": made.hex(), **asked})
+        tally.same("no place, open: " + label, given, {"no": number, "place": 0})
+        for step in answer({"op": "steps", "data": made.hex(), **asked})["steps"]:
+            tally.same("no place, a step: " + label, sorted(step), ["bytes", "count", "no"])
+    for op in ("header", "steps", "open", "inner", "attachment"):
+        given = answer({"op": op, "data": {"zeros": 16_777_217}, **asked})
+        tally.same("no place, %s: over the limit" % op, given, {"no": 1, "place": 0})
+    kdf = {"kind": "aeskdf", "S": "33" * 32, "R": 6_000}
+    file_of = {"op": "write", "minor": 1, "cipher": "aes", "seed": "11" * 32, "nonce": "22" * 16, "kdf": kdf}
+    tally.same("no place, written", answer({**file_of, **asked, "custom": "0001", "data": ""}), {"no": 10})
+    payload_of = {"op": "inner_write", "alg": 2, "key": "", "run": "0400000000", "data": ""}
+    tally.same("no place, written inside", answer(payload_of), {"no": 7})
+
+
+def scanned(data):
+    """Number and place of a dictionary by itself, in another way: its items are listed first, up to a fault, and then
+    the first name is looked for that stands in the list before."""
+    fault, listed, at = (10, 0), [], 2
+    while data[1:2] == b"\x01" and at < len(data) and data[at]:
+        try:
+            kind, size = struct.unpack_from("<BI", data, at)
+            (length,) = struct.unpack_from("<I", data, at + 5 + size)
+        except struct.error:
+            kind = None
+        # A negative size, read as one without a sign, passes the end.
+        if kind not in SIZE_OF_TYPE or at + 9 + size + length > len(data) or SIZE_OF_TYPE[kind] not in (None, length):
+            fault = (10, at)
+            break
+        listed.append((at, data[at + 5 : at + 5 + size]))
+        at += 9 + size + length
+    names = [name for _, name in listed]
+    repeated = [place for number, (place, name) in enumerate(listed) if name in names[:number]]
+    if repeated:
+        return 6, repeated[0]
+    return (0, 0) if fault == (10, 0) and data[1:2] == b"\x01" and data[at:] == b"\x00" else fault
+
+
+def check_place(tally, label, request):
+    """What holds of every reader's answer. "The place is the one answer beside the number that need not be zero"."""
+    given, data = answer(request), bytes.fromhex(request["data"])
+    number, place = given["no"], given.get("place", 0)
+    if number == 0:
+        tally.same(label + " accepted", "place" in given, False)
+        return
+    tally.same(label + " answers", sorted(given), ["no", "place"])
+    behind_header = request["op"] in ("open", "steps") and number_of(outer.read, data) == 0
+    if number in (1, *range(12, 20)) or behind_header:
+        tally.same(label + " has none", place, 0)
+    elif number in (2, 3, 4):
+        tally.same(label + " at the front or the length", place in {2: (len(data),), 3: (0, 4), 4: (8,)}[number], True)
+    else:
+        tally.same(label + " within", place < len(data) or (number, place, data) == (10, 0, b""), True)
+    if number == 8:
+        tally.same(label + " at the end field", data[place], 0)
+    if number == 7:
+        listed = (0, 1, 2, 3) if request["op"] in ("inner", "attachment") else outer.FIELD_SIZE
+        tally.same(label + " at an ID", data[place] in listed, False)
+    if request["op"] in ("dict", "lookup"):
+        tally.same(label + " scanned", (number, place), scanned(data))
+
+
+def check_place_laws(tally, count=250):
+    """The fixed requests of Item 8, and random ones of each reader."""
+    for index, make in enumerate(PLACES):
+        request = make(Random(index))
+        if request["op"] in READERS:
+            check_place(tally, "place %d, %s" % (index, request["op"]), request)
+    for op in READERS:
+        for index in range(count):
+            check_place(tally, "random place %d, %s" % (index, op), {"op": op, **SHARES[op][1](Random(index))})
+    for op in ("header", "open"):
+        for index in range(count):
+            made = SHARES[op][1](Random(index))
+            given = answer({"op": "header", **made})
+            if given["no"]:
+                data = bytes.fromhex(made["data"])
+                check_readers(tally, "random %s %d" % (op, index), data, given["no"], given["place"])
+
+
 def check_agreement(tally, count=1500):
     """Demand 3 on the model: "Once it is taken, they are the payload, and the whole opener gives the same"; "Where a
     refusal met the start or closed the opening, the whole opener gives that refusal." """
@@ -473,6 +767,13 @@ def check_model(fixtures):
     check_salsa20(tally)
     check_stream(tally)
     check_listing(tally)
+    check_field_places(tally)
+    check_kdf_places(tally)
+    check_custom_places(tally)
+    check_argon2_places(tally)
+    check_inner_places(tally)
+    check_no_places(tally)
+    check_place_laws(tally)
     check_agreement(tally)
     check_fixtures(tally, fixtures)
     print("%d passed, %d failed" % (tally.passed, tally.failed))
