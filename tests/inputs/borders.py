@@ -12,7 +12,7 @@ from model.limits import (
     WRITTEN_BLOCK,
 )
 
-from .shapes import Block, Dictionary, Field, Item, aes_kdf_items, sound_inner, sound_vault
+from .shapes import BOOL, Block, Dictionary, Field, Item, aes_kdf_items, numbered, sound_inner, sound_vault
 
 # Document 01's numbers, before Item 7: "Stored vaults stay valid and open as before."
 FORMER_LIMIT = 4_194_304  # file and payload
@@ -36,11 +36,6 @@ def dictionary_of(length, behind=b""):
     made.end = behind + made.end
     made.items[0].value = bytes(length - len(made.octets()))
     return made.octets()
-
-
-def many_items(count):
-    """A sound dictionary of so many items."""
-    return Dictionary([Item(0x08, b"%d" % number, b"\x01") for number in range(count)]).octets()
 
 
 # ----- files
@@ -607,7 +602,7 @@ INNER = (
     inner_write_of(FORMER_LIMIT + 1),
 )
 
-REPEATED_ITEM, UNLISTED_ITEM = Item(0x08, b"a", b"\x01").octets(), Item(0x43, b"b", b"").octets()
+REPEATED_ITEM, UNLISTED_ITEM = Item(BOOL, b"a", b"\x01").octets(), Item(0x43, b"b", b"").octets()
 
 # Places up to a file's limit, and behind it in a dictionary by itself, which has none.
 FAR = tuple(
@@ -624,11 +619,11 @@ FAR = tuple(
 
 DICTIONARIES = (
     lambda rng: {"op": "dict", "data": dictionary_of(FILE_LIMIT + 1).hex()},
-    lambda rng: {"op": "dict", "data": many_items(1500).hex()},
-    lambda rng: {"op": "dict", "data": (many_items(1500)[:-1] + Item(0x08, b"749", b"\x01").octets() + b"\x00").hex()},
-    lambda rng: {"op": "lookup", "data": many_items(1500).hex(), "name": b"1499".hex()},
+    lambda rng: {"op": "dict", "data": numbered(range(1500)).octets().hex()},
+    lambda rng: {"op": "dict", "data": numbered([*range(1500), 749]).octets().hex()},
+    lambda rng: {"op": "lookup", "data": numbered(range(1500)).octets().hex(), "name": b"1499".hex()},
     lambda rng: {"op": "lookup", "data": dictionary_of(FILE_LIMIT + 1).hex(), "name": b"a".hex()},
-    lambda rng: {"op": "lookup", "data": many_items(2).hex(), "name": zeros(FILE_LIMIT + 1)},
+    lambda rng: {"op": "lookup", "data": numbered(range(2)).octets().hex(), "name": zeros(FILE_LIMIT + 1)},
 )
 
 STREAMS = (

@@ -12,9 +12,8 @@ from .few_rounds import (
     READERS, argon2_vault_of, rounds_cut, rounds_of, with_field, with_field_more, with_front, with_item, with_size,
     without_field, without_item,
 )
-from .shapes import Dictionary, Field, Item
+from .shapes import BOOL, Field, Item, named, numbered
 
-BOOL = 0x08
 STRING = 0x18
 
 # ----- the outer header
@@ -105,19 +104,9 @@ FIELDS = (
 # ----- dictionaries: edits of one, which may be the KDF's, a custom one, or by itself
 
 
-def items_of(names, kind=BOOL, value=b"\x01"):
-    """Items of these names."""
-    return [Item(kind, name, value) for name in names]
-
-
 def letters(text):
     """A dictionary whose items are named by the letters of a text."""
-    return Dictionary(items_of([letter.encode() for letter in text]))
-
-
-def numbered(numbers):
-    """A dictionary whose items are named by numbers."""
-    return Dictionary(items_of([b"%d" % number for number in numbers]))
+    return named([letter.encode() for letter in text])
 
 
 def with_version(version):

@@ -4,6 +4,8 @@ from model import header as outer, keys
 from model.dictionary import AES_KDF, ARGON2_ITEMS, ARGON2D, ARGON2ID, BYTES, SIZE_OF_TYPE, UINT32, UINT64
 from model.primitives import sha256
 
+BOOL = 0x08
+
 
 def int32_octets(value):
     """An Int32, negative or not, little-endian."""
@@ -178,10 +180,19 @@ def sound_dictionary(rng, most=5):
     return made
 
 
+def named(names):
+    """A dictionary of items with these names."""
+    return Dictionary([Item(BOOL, name, b"\x01") for name in names])
+
+
+def numbered(numbers):
+    """A dictionary whose items are named by numbers."""
+    return named([b"%d" % number for number in numbers])
+
+
 def long_dictionary(rng):
-    """A sound dictionary of many items, the names of which are numbers in any order."""
-    names = rng.sample(range(2000), rng.choice((rng.randrange(8, 40), rng.randrange(8, 300))))
-    return Dictionary([Item(0x08, b"%d" % name, b"\x01") for name in names])
+    """A sound dictionary of many items, named by numbers in any order."""
+    return numbered(rng.sample(range(2000), rng.choice((rng.randrange(8, 40), rng.randrange(8, 300)))))
 
 
 # Enough rounds, of which a part is too few: the low byte, the low 16 bits, these with a sign. 71,535 is 0x1176F.
