@@ -1,6 +1,7 @@
 -- Document 02, Item 8: where the place of a refusal lies.
 --
--- In order: lone-lies (a lone dictionary), start-says, whole-says (the openers), places (the sentence).
+-- In order: lone-lies, check-broken, check-repeated (a lone dictionary), start-says, whole-says (the openers), places
+-- (the sentence).
 -- Not here: which field or item begins at the place (Begins).
 -- Assumes nothing.
 use mathlib.Core.Path.{_≡_, refl, sym, ap, _∙_}
@@ -11,7 +12,7 @@ use lib.ListN.{length}
 use Rattle.words.proofs.Laws.Cases.{by-bool}
 use Rattle.slices.specs.Same.{same}
 use Rattle.refusals.specs.declared.Refusal.{Refusal}
-use Rattle.refusals.specs.declared.Refusal.the-variants.{BrokenDictionary}
+use Rattle.refusals.specs.declared.Refusal.the-variants.{Repeated, BrokenDictionary}
 use Rattle.refusals.specs.Numbers.{placeOf}
 use Rattle.dictionary.specs.Dictionary.{entryAt, nameOf, next, verdict, searchFrom, searchIn, findIn, find}
 use Rattle.dictionary.specs.declared.Entry.{Entry}
@@ -67,6 +68,16 @@ lone-empty : (name : List ℕ) → find [] name ≡ found.Refused (BrokenDiction
 unfolding find findIn verdict
 lone-empty name = refl
 
+check-broken : (d name : List ℕ) (at : ℕ) → verdict d ≡ verdictIs.Broken at
+    → find d name ≡ found.Refused (BrokenDictionary at)
+unfolding find findIn
+check-broken d name at e = rw e
+
+check-repeated : (d name : List ℕ) (at : ℕ) → verdict d ≡ verdictIs.Repeated at
+    → find d name ≡ found.Refused (Repeated at)
+unfolding find findIn
+check-repeated d name at e = rw e
+
 start-says : (t f : List ℕ) (r : Refusal) → header f ≡ read.Refused r → start t f ≡ startRefused r
 unfolding start startIn
 start-says t f r e = rw e
@@ -98,6 +109,8 @@ places =
       attachment-lies = λ p i r e. rw e at (attachment-lies p i);
       dictionary-lies = λ d name r h e. rw e at (lone-lies d name h);
       dictionary-empty = lone-empty;
+      check-broken = check-broken;
+      check-repeated = check-repeated;
       start-header = start-says;
       start-zero = λ t f h r g e. rw e at (start-behind t f h g);
       whole-header = whole-says;

@@ -16,7 +16,8 @@ use Rattle.refusals.specs.declared.Refusal.{Refusal}
 use Rattle.refusals.specs.declared.Refusal.the-variants.{TooLong, CutShort, WrongSignature, WrongVersion, WrongSize, Repeated, UnknownField, Absent, Unlisted, BrokenDictionary, TooManyRounds, HeaderHash, HeaderTag, BlockTag, TrailingBytes, WrongPadding, NoRoom, WrongCredential, OutOfSequence, TooFewRounds, FigureOutside}
 use Rattle.refusals.specs.declared.Written.the-variants as written
 use Rattle.refusals.specs.Numbers.{placeOf}
-use Rattle.dictionary.specs.Dictionary.{find}
+use Rattle.dictionary.specs.Dictionary.{verdict, find}
+use Rattle.dictionary.specs.declared.Verdict.the-variants as verdictIs
 use Rattle.dictionary.specs.declared.Found.the-variants as found
 use Rattle.outer_header.specs.Kdbx4Header.{header}
 use Rattle.outer_header.specs.declared.Header.{Header}
@@ -64,6 +65,11 @@ pub record Places : Type 0 where
   pub dictionary-lies : (d name : List ℕ) (r : Refusal) → 0 < length d → find d name ≡ found.Refused r
       → LiesIn (length d) r
   pub dictionary-empty : (name : List ℕ) → find [] name ≡ found.Refused (BrokenDictionary 0)
+  -- the check of a lone dictionary says what looking up a name in it says
+  pub check-broken : (d name : List ℕ) (at : ℕ) → verdict d ≡ verdictIs.Broken at
+      → find d name ≡ found.Refused (BrokenDictionary at)
+  pub check-repeated : (d name : List ℕ) (at : ℕ) → verdict d ≡ verdictIs.Repeated at
+      → find d name ≡ found.Refused (Repeated at)
   -- the openers say what the header's reader says, and behind an accepted header the place is zero
   pub start-header : (t f : List ℕ) (r : Refusal) → header f ≡ read.Refused r → start t f ≡ startRefused r
   pub start-zero : (t f : List ℕ) (h : Header) (r : Refusal) → header f ≡ read.Header h → start t f ≡ startRefused r
