@@ -5,11 +5,11 @@
 --   33,554,432 and the written block to 1,048,576"                fileLimit, payloadLimit, messageLimit, writtenBlock
 --   "Passwords, key files and Item 1 keep 4,194,304"                       passwordLimit, keyFileLimit, streamLimit
 -- Document 02, Item 6: "S of 8 to 64 bytes, I 1 to 64, M 8,192 to 67,108,864, P 1 to 16, M at least 8,192 times P"
---                                                                                                      argon2Fits
+--                                                                                         argon2Fits, Argon2Bounds
 -- Not here: the laws that proofs lean on (proofs, Laws.Limits).
 -- Assumes nothing.
 use mathlib.Core.Bool.{Bool, _&&_}
-use Prim.Native.Nat.{ℕ, _*_}
+use Prim.Native.Nat.{ℕ, _*_, _≤_}
 use lib.Dec.{leb}
 
 -- a file, read or written
@@ -72,3 +72,14 @@ lanesFit n = within n 1 16
 unfoldable pub argon2Fits : ℕ → ℕ → ℕ → ℕ → Bool
 argon2Fits salt passes memory lanes =
     saltFits salt && (passesFit passes && (memoryFits memory && (lanesFit lanes && leb (8_192 * lanes) memory)))
+
+-- the same bounds as facts; 8,192 of memory follow from a lane
+pub record Argon2Bounds (salt passes memory lanes : ℕ) : Type 0 where
+  pub salt-least : 8 ≤ salt
+  pub salt-most : salt ≤ 64
+  pub passes-least : 1 ≤ passes
+  pub passes-most : passes ≤ 64
+  pub memory-least : 8_192 * lanes ≤ memory
+  pub memory-most : memory ≤ 67_108_864
+  pub lanes-least : 1 ≤ lanes
+  pub lanes-most : lanes ≤ 16

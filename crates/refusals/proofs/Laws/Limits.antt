@@ -6,15 +6,15 @@
 --   file-size, payload-size, rounds-word, rounds-some, stream-word, stream-some
 --   block-pieces, block-positive, block-size, block-file
 --   payload-raised, file-raised, block-raised
---   Argon2Bounds, argon2Fits-bounds
+--   argon2Fits-bounds, bounds-argon2Fits
 -- Assumes nothing.
 use mathlib.Core.Path.{_≡_, refl}
 use mathlib.Core.Bool.{true}
 use Prim.Native.Nat.{ℕ, _+_, _*_, _%_, _^_, _≤_, _<_}
 use native.Mathlib.Omega.{arith}
-use borrow.Author.Tests.{leb-true}
+use borrow.Author.Tests.{leb-true, le-leb}
 use Rattle.words.proofs.Laws.Cases.{and-true}
-use Rattle.refusals.specs.Limits.{fileLimit, payloadLimit, passwordLimit, keyFileLimit, messageLimit, roundsLimit, roundsLeast, streamLimit, writtenBlock, within, argon2Fits}
+use Rattle.refusals.specs.Limits.{fileLimit, payloadLimit, passwordLimit, keyFileLimit, messageLimit, roundsLimit, roundsLeast, streamLimit, writtenBlock, within, argon2Fits, Argon2Bounds}
 
 -- a whole file, with a block's number and size before it, is a message
 pub message-file : fileLimit + 12 ≤ messageLimit
@@ -100,17 +100,7 @@ pub block-raised : 16_384 + 16_384 ≤ writtenBlock
 unfolding writtenBlock
 block-raised = omega arith
 
--- what Argon2's figures keep to, where they fit
-pub record Argon2Bounds (salt passes memory lanes : ℕ) : Type 0 where
-  pub salt-least : 8 ≤ salt
-  pub salt-most : salt ≤ 64
-  pub passes-least : 1 ≤ passes
-  pub passes-most : passes ≤ 64
-  pub memory-least : 8_192 * lanes ≤ memory
-  pub memory-most : memory ≤ 67_108_864
-  pub lanes-least : 1 ≤ lanes
-  pub lanes-most : lanes ≤ 16
-
+-- Argon2's figures fit just where they are within their bounds
 within-true : (n least most : ℕ) → within n least most ≡ true → (least ≤ n) × (n ≤ most)
 within-true n least most e =
     let b = and-true _ _ e in
@@ -134,3 +124,20 @@ argon2Fits-bounds salt passes memory lanes e =
       lanes-least = within-true lanes 1 16 (p .0) .0;
       lanes-most = within-true lanes 1 16 (p .0) .1;
     }
+
+pub bounds-argon2Fits : (salt passes memory lanes : ℕ) → Argon2Bounds salt passes memory lanes
+    → argon2Fits salt passes memory lanes ≡ true
+unfolding argon2Fits
+bounds-argon2Fits salt passes memory lanes b =
+    let least : 8_192 ≤ memory = omega (arith, b .memory-least, b .lanes-least) in
+    rw (
+      le-leb 8 salt (b .salt-least),
+      le-leb salt 64 (b .salt-most),
+      le-leb 1 passes (b .passes-least),
+      le-leb passes 64 (b .passes-most),
+      le-leb 8_192 memory least,
+      le-leb memory 67_108_864 (b .memory-most),
+      le-leb 1 lanes (b .lanes-least),
+      le-leb lanes 16 (b .lanes-most),
+      le-leb (8_192 * lanes) memory (b .memory-least),
+    )

@@ -1,8 +1,8 @@
 -- Refusal numbers tell the refusals apart: none has the number of success, and two of one number are the same.
 --
--- In order: ofRefusal-positive, ofRefusal-inj.
+-- In order: ofRefusal-positive, ofRefusal-inj, ofRefusal-17.
 -- Assumes nothing.
-use mathlib.Core.Path.{_≡_, refl, sym, ap₂, _∙_}
+use mathlib.Core.Path.{_≡_, refl, sym, ap, ap₂, _∙_}
 use mathlib.Core.List.{[], _∷_}
 use Prim.Native.Nat.{ℕ, _<_}
 use native.Mathlib.Omega.{arith}
@@ -70,3 +70,8 @@ named-ofRefusal (FigureOutside at) = refl
 
 pub ofRefusal-inj : (r q : Refusal) → ofRefusal r ≡ ofRefusal q → placeOf r ≡ placeOf q → r ≡ q
 ofRefusal-inj r q e d = sym (named-ofRefusal r) ∙ ap₂ named e d ∙ named-ofRefusal q
+
+-- 17 has no place, so that its number is enough
+pub ofRefusal-17 : (r : Refusal) → ofRefusal r ≡ 17 → r ≡ NoRoom
+unfolding named
+ofRefusal-17 r e = sym (named-ofRefusal r) ∙ ap (λ (n : ℕ). named n (placeOf r)) e
