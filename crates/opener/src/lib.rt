@@ -93,12 +93,19 @@ pub fn begin(k: Keys, p: usize) -> Opener
     }
 }
 
-// Whether a place is within the file's limit and has room for the blocks taken.
+// Whether a place is within the file's limit and has room for the blocks taken, each of which had a byte at least; with
+// none there is no ciphertext.
 fn is_sound(number: u64, at: usize, taken: usize) -> bool
     ensures { λ r. ⌜ r ≡ steps.sound number at taken ⌝ }
 {
     if refusals::limits::file_fits(at) {
         if at < taken {
+            return false;
+        }
+        if number == 0 {
+            return taken == 0;
+        }
+        if (taken as u64) < number {
             return false;
         }
         return number <= ((at - taken) / 36) as u64;

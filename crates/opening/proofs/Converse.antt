@@ -1,8 +1,9 @@
--- The other way round, for demand 2: where the whole opener opens a file, so does every long enough list of steps with
--- room.
+-- The other way round, for demand 2: where the whole opener opens a file, so does every list with as many steps with
+-- room as the file has bytes.
 --
--- In order: roomed-opened, wholeIn-same (what is opened does not depend on the room), opened-stepwise (the theorem).
--- Not here: the start (crate opener).
+-- In order: roomed-opened, wholeIn-same (what is opened does not depend on the room), opened-steps (the theorem),
+-- opened-stepwise (the same, where each step is lent fifteen bytes more than the next block's size).
+-- Not here: the start (crate vault).
 -- Assumes nothing.
 use mathlib.Core.Path.{_≡_, _∙_}
 use mathlib.Core.List.{List}
@@ -16,19 +17,21 @@ use Rattle.opening.specs.declared.Keys.{Keys}
 use Rattle.opening.specs.declared.Phase.the-variants.{Ended}
 use Rattle.opening.specs.Decryption.{Opened, refused, opened}
 use Rattle.opening.specs.Whole.{whole, roomed, wholeIn}
+use Rattle.opening.specs.Runs.{withRoom}
 use Rattle.opening.specs.Plain.{plainStart}
 use Rattle.opening.specs.Agreement.{
+  stepAnswers,
   handedOver,
-  stateAfter,
   plainAfter,
   Roomy,
   Finished,
   by-closing,
   by-refusal,
   RunAgrees,
+  OpenedStepwise,
 }
 use Rattle.opening.proofs.Laws.Replies.{never}
-use Rattle.opening.proofs.Theorem.{agrees}
+use Rattle.opening.proofs.Theorem.{agrees, all-room}
 
 roomed-opened : (n : ℕ) (v : Opened) (b : List ℕ) → roomed n v ≡ opened b → v ≡ opened b
 unfolding roomed
@@ -46,24 +49,27 @@ wholeIn-same k f p n m a b g h =
     let e : whole k f p ≡ opened b = roomed-opened m (whole k f p) b h in
     cc
 
--- the closing block is taken, and b handed over
-pub record OpenedStepwise (k : Keys) (f : List ℕ) (p : ℕ) (rooms b : List ℕ) : Type 0 where
-  pub ended : stateAfter k f p rooms .phase ≡ Ended
-  pub bytes-are : handedOver k f p rooms ≡ b
-
 finished-ended : (k : Keys) (f : List ℕ) (p n : ℕ) (rooms b : List ℕ) → wholeIn k f p n ≡ opened b
     → Finished k f p rooms
     → plainAfter k f p rooms .phase ≡ Ended
 finished-ended k f p n rooms b h (by-closing e) = e
 finished-ended k f p n rooms b h (by-refusal e r c s g) = let z = g n in never (cc)
 
+pub opened-steps : (k : Keys) → length (k .nonce) ≡ 16 → (f : List ℕ) (p : ℕ) → length f ≤ fileLimit → 0 < p
+    → p ≤ length f
+    → (n : ℕ) (b : List ℕ) → wholeIn k f p n ≡ opened b
+    → (rooms : List ℕ) → length f ≤ withRoom (stepAnswers k f p rooms) → OpenedStepwise k f p rooms b
+opened-steps k w f p l o i n b h rooms many =
+    let r : RunAgrees k f p rooms = agrees k w f p l o i rooms in
+    let e = finished-ended k f p n rooms b h (r .ends many) in
+    let c : List ℕ = handedOver k f p rooms in
+    let g : wholeIn k f p (length c) ≡ opened c = r .whole-gives e (length c) (omega arith) in
+    record { ended = r .phase-is ∙ e; bytes-are = wholeIn-same k f p (length c) n c b g h }
+
 pub opened-stepwise : (k : Keys) → length (k .nonce) ≡ 16 → (f : List ℕ) (p : ℕ) → length f ≤ fileLimit → 0 < p
     → p ≤ length f
     → (n : ℕ) (b : List ℕ) → wholeIn k f p n ≡ opened b
     → (rooms : List ℕ) → length f ≤ length rooms → Roomy k f (plainStart p) rooms → OpenedStepwise k f p rooms b
 opened-stepwise k w f p l o i n b h rooms many roomy =
-    let r : RunAgrees k f p rooms = agrees k w f p l o i rooms in
-    let e = finished-ended k f p n rooms b h (r .ends many (r .room roomy)) in
-    let c : List ℕ = handedOver k f p rooms in
-    let g : wholeIn k f p (length c) ≡ opened c = r .whole-gives e (length c) (omega arith) in
-    record { ended = r .phase-is ∙ e; bytes-are = wholeIn-same k f p (length c) n c b g h }
+    opened-steps k w f p l o i n b h rooms
+    (all-room k f p rooms many (agrees k w f p l o i rooms .room roomy))

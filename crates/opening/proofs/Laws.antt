@@ -11,6 +11,7 @@
 --   Blocks      one step of the code's ciphers
 --   Standing    a step of the code is the plain opener's
 --   Taken       the blocks taken are the file's first
+--   Filled      no more blocks than bytes of ciphertext
 --   Progress    what was handed over, and where the whole opener stands meanwhile
 --   Refusals    what a step's refusal says
 --   Runs        lists of steps
@@ -26,6 +27,7 @@ pub mod Payload
 pub mod Blocks
 pub mod Standing
 pub mod Taken
+pub mod Filled
 pub mod Progress
 pub mod Refusals
 pub mod Runs

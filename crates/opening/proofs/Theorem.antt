@@ -5,8 +5,9 @@
 --   the whole opener with n bytes lent
 --   each field of RunAgrees
 --   agrees    the theorem
+--   all-room  a list of which no step is refused with 17
 -- A first block stands behind a header, so that its place is not 0; an empty file would be opened by no step at all.
--- Not here: the start (crate opener).
+-- Not here: the start (crate vault).
 -- Assumes nothing.
 use mathlib.Core.Path.{_≡_, refl, sym, ap, _∙_}
 use mathlib.Core.Logic.{_≢_}
@@ -19,17 +20,20 @@ use Rattle.refusals.specs.declared.Refusal.{Refusal}
 use Rattle.refusals.specs.declared.Refusal.the-variants.{NoRoom}
 use Rattle.refusals.specs.declared.Written.the-variants as written
 use Rattle.refusals.specs.Limits.{fileLimit}
+use Rattle.refusals.specs.Numbers.{countOf}
 use Rattle.opening.specs.declared.Keys.{Keys}
 use Rattle.opening.specs.declared.Phase.{Phase}
 use Rattle.opening.specs.declared.Phase.the-variants.{Open, Closed, Ended}
 use Rattle.opening.specs.declared.Opener.{Opener}
 use Rattle.opening.specs.Decryption.{refused, opened, given}
 use Rattle.opening.specs.Whole.{whole, roomed, wholeIn}
-use Rattle.opening.specs.Runs.{Answer, Each, none, both, Some, here, there}
+use Rattle.opening.specs.Runs.{Answer, withRoom, Each, none, both, Some, here, there}
 use Rattle.opening.specs.Plain.{plain, plainStart}
+use Rattle.opening.specs.Steps.{openStart, stepOf}
 use Rattle.opening.specs.Standing.{standing}
 use Rattle.opening.specs.Agreement.{
   Closing,
+  sizeAt,
   blockData,
   firstData,
   stepAnswers,
@@ -45,15 +49,20 @@ use Rattle.opening.specs.Agreement.{
 use Rattle.opening.proofs.Laws.Given.{length-given}
 use Rattle.opening.proofs.Laws.Standing.{openStart-standing, phase-standing}
 use Rattle.opening.proofs.Laws.Taken.{ReachedAt, reached-start, firstData-same}
+use Rattle.opening.proofs.Laws.Filled.{filled-start}
 use Rattle.opening.proofs.Laws.Progress.{EndProgress, ProgressAt, progress-start, progress-until, progress-ended}
 use Rattle.opening.proofs.Laws.Runs.{
   answers-standing,
   after-standing,
   run-reached,
+  run-filled,
   run-progress,
   run-refusals,
   run-closed,
   run-moves,
+  withRoom-all,
+  length-answers,
+  step-short,
   run-room,
 }
 
@@ -99,10 +108,10 @@ module _ (k : Keys) (w : length (k .nonce) ≡ 16) (f : List ℕ) (l : length f 
     reached = reached-start k f p i
 
     stepAnswers-plain : (rooms : List ℕ) → stepAnswers k f p rooms ≡ plainAnswers k f p rooms
-    stepAnswers-plain rooms = rw (openStart-standing k p) (answers-standing k w f l p (plainStart p) rooms reached)
+    stepAnswers-plain rooms = rw (openStart-standing k p) (answers-standing k w f l p (plainStart p) rooms reached (filled-start p))
 
     stateAfter-standing : (rooms : List ℕ) → stateAfter k f p rooms ≡ standing k (plainAfter k f p rooms)
-    stateAfter-standing rooms = rw (openStart-standing k p) (after-standing k w f l p (plainStart p) rooms reached)
+    stateAfter-standing rooms = rw (openStart-standing k p) (after-standing k w f l p (plainStart p) rooms reached (filled-start p))
 
     plainAfter-reached : (rooms : List ℕ) → ReachedAt k f p (plainAfter k f p rooms)
     plainAfter-reached rooms = run-reached k f p (plainStart p) rooms reached
@@ -134,22 +143,29 @@ module _ (k : Keys) (w : length (k .nonce) ≡ 16) (f : List ℕ) (l : length f 
         (run-refusals k w f p [] (plainStart p) rooms reached (progress-start k f p)))
 
     -- steps with room that leave the plain opener open are no more than the bytes behind p
-    open-short : (rooms : List ℕ) → Each (λ (a : Answer). a .written ≢ written.Refused NoRoom) (stepAnswers k f p rooms)
-        → plainAfter k f p rooms .phase ≡ Open → p + length rooms ≤ length f
-    open-short rooms h e =
+    open-short : (rooms : List ℕ) → plainAfter k f p rooms .phase ≡ Open
+        → p + withRoom (stepAnswers k f p rooms) ≤ length f
+    open-short rooms e =
         let a = plainStart-at p in
-        let n = run-moves k f (plainStart p) rooms (rw (stepAnswers-plain rooms) at h) e in
-        omega (arith, plainAfter-reached rooms .inside, a, n)
+        let n = run-moves k f (plainStart p) rooms e in
+        rw (stepAnswers-plain rooms) (omega (arith, plainAfter-reached rooms .inside, a, n))
 
-    finished : 0 < p → (rooms : List ℕ) (m : Phase) → plainAfter k f p rooms .phase ≡ m → length f ≤ length rooms
-        → Each (λ (a : Answer). a .written ≢ written.Refused NoRoom) (stepAnswers k f p rooms) → Finished k f p rooms
-    finished o rooms Open e l h = absurd (omega (arith, open-short rooms h e))
-    finished o rooms Closed e l h =
+    finished : 0 < p → (rooms : List ℕ) (m : Phase) → plainAfter k f p rooms .phase ≡ m
+        → length f ≤ withRoom (stepAnswers k f p rooms) → Finished k f p rooms
+    finished o rooms Open e l = absurd (omega (arith, open-short rooms e))
+    finished o rooms Closed e l =
         let c = run-closed k f (plainStart p) rooms (plainStart-phase p) e in
         let s : Some (λ (a : Answer). a .written ≡ written.Refused (c .refusal)) (stepAnswers k f p rooms) =
         rw (stepAnswers-plain rooms) (c .given-by) in
         by-refusal e (c .refusal) (c .closing) s (some-refused k f p (c .refusal) (c .closing) (refused-alike rooms) s)
-    finished o rooms Ended e l h = by-closing e
+    finished o rooms Ended e l = by-closing e
+
+    next-short : (rooms : List ℕ) (n : ℕ) → countOf (stepOf f (stateAfter k f p rooms) n .answer .written)
+        ≤ sizeAt f (plainAfter k f p rooms .at) + 15
+    next-short rooms n =
+        rw (stateAfter-standing rooms)
+        (step-short k w f l p (plainAfter k f p rooms) n (plainAfter-reached rooms)
+        (run-filled k f (plainStart p) rooms (filled-start p)))
 
 firsts-same : (k : Keys) → length (k .nonce) ≡ 16 → (f : List ℕ) → length f ≤ fileLimit → (p : ℕ) → p ≤ length f
     → (rooms g : List ℕ) → length g ≤ fileLimit → (q : ℕ) → q ≤ length g → (others : List ℕ)
@@ -181,7 +197,17 @@ agrees k w f p l o i rooms =
       whole-gives = λ e n h.
           wholeIn-opened k f p n (handedOver k f p rooms) (handedOver-ended k w f l p i rooms e .whole-is) h;
       refusals = refused-alike k w f l p i rooms;
-      ends = λ n h. finished k w f l p i o rooms (plainAfter k f p rooms .phase) refl n h;
+      ends = λ n. finished k w f l p i o rooms (plainAfter k f p rooms .phase) refl n;
       room = λ m. rw (stepAnswers-plain k w f l p i rooms) (run-room k w f (plainStart p) rooms m);
+      step-le = next-short k w f l p i rooms;
       firsts = λ g q others lg iq ef eg n same. firsts-same k w f l p i rooms g lg q iq others ef eg n same;
     }
+
+-- as many steps as the file has bytes, none refused with 17
+pub all-room : (k : Keys) (f : List ℕ) (p : ℕ) (rooms : List ℕ) → length f ≤ length rooms
+    → Each (λ (a : Answer). a .written ≢ written.Refused NoRoom) (stepAnswers k f p rooms)
+    → length f ≤ withRoom (stepAnswers k f p rooms)
+all-room k f p rooms l h =
+    let a = withRoom-all (stepAnswers k f p rooms) h in
+    let b = length-answers (stepOf f) (openStart k p) rooms in
+    omega (arith, a, b)

@@ -34,6 +34,7 @@ use Rattle.opening.specs.Plain.{plain, plainStart, due, plainClose, plai
 use Rattle.opening.specs.Steps.{lastBy}
 use Rattle.opening.specs.Standing.{prevOf, heldOf}
 use Rattle.opening.specs.Agreement.{stepAnswers}
+use Rattle.opening.specs.Worked.{OpenedBytes, closingAdds, writtens, Blocks5And27, ClosingBehind, ciphertext}
 use Rattle.opening.proofs.Laws.Replies.{hand-enough}
 use Rattle.opening.proofs.Laws.Judge.{judge-data, length-dataAt}
 use Rattle.opening.proofs.Laws.Pieces.{length-aesFrom}
@@ -50,12 +51,6 @@ handed-16 = refl
 pub handed-17 : handed Aes256 17 ≡ 16
 unfolding handed
 handed-17 = refl
-
--- opened, with n bytes
-pub record OpenedBytes (v : Opened) (n : ℕ) : Type 0 where
-  pub bytes : List ℕ
-  pub opened-is : v ≡ opened bytes
-  pub count-is : length bytes ≡ n
 
 -- bytes that end in a padding of q bytes
 stripped-padding : (x : List ℕ) (q : ℕ) → padding x ≡ q → 1 ≤ q → stripped (strip x) ≡ opened (take (length x - q) x)
@@ -82,10 +77,6 @@ lastBy-padding-1 k c v h lv lh n z e = lastBy-padding k c v h 1 lv lh n z e (ome
 pub lastBy-padding-16 : (k : Keys) (c : ℕ) (v h : List ℕ) → length v ≡ 16 → length h ≡ 16 → c ≢ 0 → c % 16 ≡ 0
     → padding (aesFrom k v h) ≡ 16 → OpenedBytes (lastBy Aes256 k c v h) 0
 lastBy-padding-16 k c v h lv lh n z e = lastBy-padding k c v h 16 lv lh n z e (omega arith)
-
--- what the closing block adds behind the ciphertext t
-abbrev pub closingAdds : Keys → List ℕ → Opened
-closingAdds k t = lastBy Aes256 k (length t) (prevOf Aes256 (k .nonce) t) (heldOf Aes256 t)
 
 -- of a payload that was padded and encrypted, the bytes behind its last whole piece
 pub closing-encrypted : (k : Keys) → IsBlock (k .nonce) → (m : List ℕ) → Bytes m
@@ -142,28 +133,6 @@ length-due-aes : (k : Keys) → k .cipher ≡ Aes256 → length (k .nonce) ≡ 1
     → length d ≡ b → length (due k t d) ≡ handed Aes256 (a + b) - handed Aes256 a
 length-due-aes k z w t d a b g h =
     length-due k w t d ∙ ap (λ (x : Cipher). handed x (length t + length d) - handed x (length t)) z ∙ rw (g, h)
-
-abbrev pub writtens : List Answer → List Written
-writtens [] = []
-writtens (a ∷ l) = a .written ∷ writtens l
-
--- a file whose first two blocks have 5 and 27 bytes and pass
-pub record Blocks5And27 (k : Keys) (f : List ℕ) (p : ℕ) : Type 0 where
-  pub aes : k .cipher ≡ Aes256
-  pub nonce-is : length (k .nonce) ≡ 16
-  pub within : length f ≤ fileLimit
-  pub behind-header : 0 < p
-  pub first : judge (k .base) f 0 p ≡ block.Data 5
-  pub second : judge (k .base) f 1 (p + 36 + 5) ≡ block.Data 27
-
--- and the closing block behind them, with no byte behind it
-pub record ClosingBehind (k : Keys) (f : List ℕ) (p : ℕ) : Type 0 where
-  pub third : judge (k .base) f 2 (p + 36 + 5 + 36 + 27) ≡ block.Closing
-  pub nothing-behind : length f ≤ p + 36 + 5 + 36 + 27 + 36
-
--- the ciphertext in them
-abbrev pub ciphertext : List ℕ → ℕ → List ℕ
-ciphertext f p = dataAt f p 5 ++ dataAt f (p + 36 + 5) 27
 
 module _ (k : Keys) (f : List ℕ) (p : ℕ) (h : Blocks5And27 k f p) where
   length-first : length (dataAt f p 5) ≡ 5

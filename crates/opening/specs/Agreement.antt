@@ -1,13 +1,15 @@
 -- Demand 3: opening block by block agrees with opening whole. The claim for a file behind its header's tag, as one
 -- record.
 --
---   Closing      a refusal that closes an opening: neither 17 nor 19
---   Roomy        steps that are each lent fifteen bytes more than the next block's size
---   Taken        the blocks taken are the file's first, each with a tag that holds under its own number
---   RunAgrees    what holds after every list of steps
+--   Closing           a refusal that closes an opening: neither 17 nor 19
+--   Roomy             steps that are each lent fifteen bytes more than the next block's size
+--   Taken             the blocks taken are the file's first, each with a tag that holds under its own number
+--   Finished          a run's end
+--   RunAgrees         what holds after every list of steps
+--   OpenedStepwise    a list of steps that took the closing block and handed over these bytes
 -- k are the keys, f is the file, p the place of its first block, `rooms` the lent lengths of the steps. A first block
 -- stands behind a header: `ends` holds where p is not 0, since an empty file would have to end with no step.
--- Not here: the start, and the claim with it (crate opener, specs Agreement).
+-- Not here: the start, and the claim with it (crate vault, specs Agreement).
 -- Assumes nothing.
 use mathlib.Core.Path.{_≡_}
 use mathlib.Core.Bool.{true}
@@ -20,13 +22,14 @@ use Rattle.refusals.specs.declared.Refusal.{Refusal}
 use Rattle.refusals.specs.declared.Refusal.the-variants.{NoRoom, OutOfSequence}
 use Rattle.refusals.specs.declared.Written.the-variants.{Refused}
 use Rattle.refusals.specs.Limits.{fileLimit}
+use Rattle.refusals.specs.Numbers.{countOf}
 use Rattle.block_stream.specs.Blocks.{holds, dataAt}
 use Rattle.opening.specs.declared.Keys.{Keys}
 use Rattle.opening.specs.declared.Phase.the-variants.{Closed, Ended}
 use Rattle.opening.specs.declared.Opener.{Opener}
 use Rattle.opening.specs.Decryption.{refused, opened, handed, given, payload}
 use Rattle.opening.specs.Whole.{wholeIn}
-use Rattle.opening.specs.Runs.{Answer, answers, after, bytesOf, Each, Some}
+use Rattle.opening.specs.Runs.{Answer, answers, after, bytesOf, withRoom, Each, Some}
 use Rattle.opening.specs.Plain.{Plain, plainStart, plainStep}
 use Rattle.opening.specs.Steps.{openStart, stepOf}
 use Rattle.opening.specs.Standing.{standing}
@@ -113,13 +116,19 @@ pub record RunAgrees (k : Keys) (f : List ℕ) (p : ℕ) (rooms : List ℕ) : Ty
   pub refusals : Each (λ (a : Answer). (r : Refusal) → a .written ≡ Refused r → Closing r
       → (n : ℕ) → wholeIn k f p n ≡ refused r) (stepAnswers k f p rooms)
   -- as many steps with room as the file has bytes take the closing block or end in such a refusal
-  pub ends : length f ≤ length rooms → Each (λ (a : Answer). a .written ≢ Refused NoRoom) (stepAnswers k f p rooms)
-      → Finished k f p rooms
+  pub ends : length f ≤ withRoom (stepAnswers k f p rooms) → Finished k f p rooms
   pub room : Roomy k f (plainStart p) rooms
       → Each (λ (a : Answer). a .written ≢ Refused NoRoom) (stepAnswers k f p rooms)
+  -- "A step over s bytes hands over at most s + 15": the next step, whatever is lent to it, over the block at its place
+  pub step-le : (n : ℕ) → countOf (stepOf f (stateAfter k f p rooms) n .answer .written)
+      ≤ sizeAt f (plainAfter k f p rooms .at) + 15
   -- another file, under the same keys, with equal first data blocks, has handed over the same when just those are taken
   pub firsts : (g : List ℕ) (q : ℕ) (others : List ℕ) → length g ≤ fileLimit → q ≤ length g
       → plainAfter k f p rooms .phase ≢ Ended → plainAfter k g q others .phase ≢ Ended
       → plainAfter k f p rooms .number ≡ plainAfter k g q others .number
       → ((j : ℕ) → j < plainAfter k f p rooms .number → blockData f p j ≡ blockData g q j)
       → handedOver k f p rooms ≡ handedOver k g q others
+
+pub record OpenedStepwise (k : Keys) (f : List ℕ) (p : ℕ) (rooms b : List ℕ) : Type 0 where
+  pub ended : stateAfter k f p rooms .phase ≡ Ended
+  pub bytes-are : handedOver k f p rooms ≡ b

@@ -6,3 +6,4 @@ pub mod Plain
 pub mod Steps
 pub mod Standing
 pub mod Agreement
+pub mod Worked

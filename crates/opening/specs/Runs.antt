@@ -3,13 +3,14 @@
 -- Assumes nothing.
 use mathlib.Core.Bool.{cond}
 use mathlib.Core.List.{List, [], _∷_, _++_}
-use Prim.Native.Nat.{ℕ}
-use lib.Dec.{ltb}
+use Prim.Native.Nat.{ℕ, suc}
+use lib.Dec.{ltb, eqb}
 use lib.ListN.{length}
 use Rattle.refusals.specs.declared.Refusal.{Refusal}
 use Rattle.refusals.specs.declared.Refusal.the-variants.{NoRoom}
 use Rattle.refusals.specs.declared.Written.{Written}
 use Rattle.refusals.specs.declared.Written.the-variants.{Wrote, Refused}
+use Rattle.refusals.specs.Numbers.{ofWritten}
 
 -- the number and the count (refusals, Numbers: ofWritten, countOf), and the bytes handed over
 pub record Answer : Type 0 where
@@ -43,6 +44,11 @@ after step a (n ∷ ns) = after step (step a n .next) ns
 unfoldable pub bytesOf : List Answer → List ℕ
 bytesOf [] = []
 bytesOf (a ∷ l) = a .bytes ++ bytesOf l
+
+-- how many of the answers are not 17: steps with room
+unfoldable pub withRoom : List Answer → ℕ
+withRoom [] = 0
+withRoom (a ∷ l) = cond (eqb (ofWritten (a .written)) 17) (withRoom l) (suc (withRoom l))
 
 -- a fact of each element
 pub data Each {A : Type 0} (P : A → Type 0) : List A → Type 0 where

@@ -4,10 +4,10 @@
 --   "A step that succeeds takes exactly one block" and its checks                               stepOf, stepIn, stepOn
 --   "A step over s bytes hands over at most s + 15. The closing step adds 16 - p for AES"       bytesBy, lastBy
 --   "An opener's closed or ended state is zero but for its mark"                                blank
--- A state that no call could have made (a place over the file's limit, or blocks and ciphertext that do not fit before
--- it) counts as closed: `sound`, `markOf`.
+-- A state that no call could have made (a place over the file's limit; blocks and ciphertext that do not fit before it;
+-- more blocks than bytes of ciphertext, or ciphertext and no block) counts as closed: `sound`, `markOf`.
 -- Assumes nothing.
-use mathlib.Core.Bool.{Bool, cond, _&&_}
+use mathlib.Core.Bool.{Bool, true, cond, _&&_}
 use mathlib.Core.List.{List, [], _++_}
 use Prim.Native.Nat.{ℕ, suc, _+_, _-_, _*_, _/_, _%_}
 use lib.Dec.{ltb, leb, eqb}
@@ -60,9 +60,10 @@ openStart k p = opener k Open 0 p 0 (firstPrev (k .cipher) (k .nonce)) zeros
 unfoldable pub padded : List ℕ → List ℕ
 padded l = l ++ replicate (16 - length l) 0
 
--- the position is within the limit and has room for the blocks taken
+-- the position is within the limit and has room for the blocks taken; each of them had a byte at least, and with none
+-- there is no ciphertext
 unfoldable pub sound : ℕ → ℕ → ℕ → Bool
-sound i p c = leb p fileLimit && leb (36 * i + c) p
+sound i p c = leb p fileLimit && (leb (36 * i + c) p && (leb i c && cond (eqb i 0) (eqb c 0) true))
 
 unfoldable pub markOf : Bool → Phase → Phase
 markOf b Open = cond b Open Closed

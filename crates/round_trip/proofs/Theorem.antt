@@ -1,15 +1,18 @@
 -- Demand 2: whatever the writer accepts opens to the same payload under the same T, whole and block by block.
 --
--- In order: the file's parts; starts, whole and stepwise, each field of Opens; written-opens, the theorem, for blocks
--- of any positive size; writing-opens, the same from the writer's answer, for its own.
+-- In order: the file's parts; starts, whole, stepwise and roomy, each field of Opens; written-opens, the theorem, for
+-- blocks of any positive size; writing-opens, of what the writer's contract says it answers and leaves.
+-- Not here: which figures the writer takes (Accepts).
 -- Assumes nothing.
 use mathlib.Core.Path.{_≡_, refl, sym, ap, ap₂, _∙_}
 use mathlib.Core.List.{List, [], _++_, append-assoc}
 use Prim.Native.Nat.{ℕ, suc, _+_, _-_, _≤_, _<_}
 use native.Mathlib.Omega.{arith}
-use lib.ListN.{length, replicate, length-append}
+use lib.ListN.{length, take, drop, replicate, length-append}
 use borrow.Author.Tests.{le-ltb}
 use Rattle.words.proofs.Laws.Bytes.{bytes-append, bytes-replicate}
+use Rattle.slices.specs.Over.{over}
+use Rattle.slices.proofs.Laws.Over.{take-over, drop-over}
 use Rattle.refusals.proofs.Laws.Limits.{block-positive}
 use Rattle.words.specs.Endian.{Bytes}
 use Rattle.words.specs.Block.{IsBlock}
@@ -29,16 +32,17 @@ use Rattle.opening.specs.Decryption.{opened, payloadBy, payload}
 use Rattle.opening.specs.Whole.{walk, whole, roomed, wholeIn}
 use Rattle.opening.specs.Plain.{plainStart}
 use Rattle.opening.specs.Steps.{padded}
-use Rattle.opening.specs.Agreement.{Roomy}
+use Rattle.opening.specs.Runs.{withRoom}
+use Rattle.opening.specs.Agreement.{stepAnswers, Roomy, OpenedStepwise}
 use Rattle.opening.proofs.Laws.Payload.{payload-aes, payload-chaCha}
-use Rattle.opening.proofs.Converse.{OpenedStepwise, opened-stepwise}
+use Rattle.opening.proofs.Converse.{opened-steps, opened-stepwise}
 use Rattle.opening.proofs.Laws.Nonce.{length-padded}
 use Rattle.vault_keys.specs.VaultKeys.{keysWith, headerHash, headerTag}
 use Rattle.vault_keys.proofs.Laws.{length-headerHash, length-headerTag, keysFor-cipher, keysFor-nonce}
 use Rattle.vault.specs.Vault.{keysOf, startAt, startIn, start, begun, openedBy, openedIn}
-use Rattle.writer.specs.Written.{Figures, sizes, encryptionBy, cut, blocksFrom, headerOf, fileWith, fileCut, fileBytes, checkedOf, writing}
+use Rattle.writer.specs.Written.{Figures, sizes, encryptionBy, cut, blocksFrom, headerOf, fileWith, fileCut, fileBytes, checkedOf, writing, shown}
 use Rattle.writer.proofs.Laws.Cut.{length-blocks}
-use Rattle.round_trip.specs.Opens.{fileKeys, firstBlock, Opens}
+use Rattle.round_trip.specs.Opens.{fileKeys, firstBlock, Opens, WrittenOpens}
 use Rattle.round_trip.proofs.Laws.Start.{startAt-written}
 use Rattle.round_trip.proofs.Laws.Blocks.{walk-blocks}
 use Rattle.round_trip.proofs.Laws.Success.{success}
@@ -165,10 +169,16 @@ module _ (z : ℕ) (some : 0 < z) (g : Figures) (c : Cipher) (t b : List ℕ) (o
   inside : firstBlock g c ≤ length f
   inside = rw (file-blocks, length-append) (omega (arith, length-front))
 
-  opens-stepwise : (rooms : List ℕ) → length f ≤ length rooms
+  opens-stepwise : (rooms : List ℕ) → length f ≤ withRoom (stepAnswers k f (firstBlock g c) rooms)
+      → OpenedStepwise k f (firstBlock g c) rooms b
+  opens-stepwise rooms many =
+      opened-steps k nonce-16 f (firstBlock g c) fits (omega arith) inside (length b) b
+      (wholeIn-is (length b) (omega arith)) rooms many
+
+  opens-roomy : (rooms : List ℕ) → length f ≤ length rooms
       → Roomy k f (plainStart (firstBlock g c)) rooms
       → OpenedStepwise k f (firstBlock g c) rooms b
-  opens-stepwise rooms many roomy =
+  opens-roomy rooms many roomy =
       opened-stepwise k nonce-16 f (firstBlock g c) fits (omega arith) inside (length b) b
       (wholeIn-is (length b) (omega arith)) rooms many roomy
 
@@ -181,20 +191,24 @@ written-opens z some g c t b ok p n fits =
       starts = starts z some g c t b ok p n fits;
       whole = opens-whole z some g c t b ok p n fits;
       stepwise = opens-stepwise z some g c t b ok p n fits;
+      roomy = opens-roomy z some g c t b ok p n fits;
     }
 
--- the file that a success of the writer leaves opens to the payload
-pub record WrittenOpens (g : Figures) (t b : List ℕ) : Type 0 where
-  pub cipher : Cipher
-  pub accepted : checkedOf g ≡ As cipher
-  pub opens : Opens g cipher t b (fileBytes g cipher t b)
-
-pub writing-opens : (g : Figures) (t b : List ℕ) (n m : ℕ) → Bytes b → Bytes (g .nonce) → writing g t b n ≡ written.Wrote m
-    → WrittenOpens g t b
-writing-opens g t b n m p q h =
-    let w = success sizes g t b n m h in
+-- of what the writer's contract says it answers, and leaves of the lent bytes
+pub writing-opens : (g : Figures) (t b before after : List ℕ) (m : ℕ) → Bytes b → Bytes (g .nonce)
+    → writing g t b (length before) ≡ written.Wrote m → after ≡ over (shown g t b (length before)) before
+    → WrittenOpens g t b before after m
+writing-opens g t b before after m p q h left =
+    let w = success sizes g t b (length before) m h in
+    let f : List ℕ = fileBytes g (w .cipher) t b in
+    let e : after ≡ over f before = left ∙ ap (λ (x : List ℕ). over x before) (w .bytes) in
+    let i : take m after ≡ f = ap (take m) e ∙ take-over f before m (w .count) in
     record {
       cipher = w .cipher;
       accepted = w .accepted;
-      opens = written-opens writtenBlock block-positive g (w .cipher) t b (w .accepted) p q (w .file-le);
+      count-is = sym (w .count);
+      room = omega (arith, w .room, w .count);
+      file-is = i;
+      rest-is = ap (drop m) e ∙ drop-over f before m (w .count);
+      opens = rw i (written-opens writtenBlock block-positive g (w .cipher) t b (w .accepted) p q (w .file-le));
     }

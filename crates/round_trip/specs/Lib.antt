@@ -1,4 +1,5 @@
 pub mod Opens
 pub mod LargerBlocks
 pub mod FewRounds
+pub mod Writable
 pub mod Worked

@@ -35,7 +35,7 @@ use Rattle.block_stream.specs.Blocks.{blockBytes}
 use Rattle.opening.specs.declared.Keys.{Keys}
 use Rattle.opening.specs.Decryption.{decryptionBy, handed}
 use Rattle.opening.specs.Agreement.{stepAnswers}
-use Rattle.opening.proofs.Worked.{Blocks5And27, ClosingBehind, ciphertext, writtens}
+use Rattle.opening.specs.Worked.{Blocks5And27, ClosingBehind, ciphertext, writtens}
 use Rattle.writer.specs.Written.{Figures, encryptionBy, blocksOf, fileBytes, headerOf, checkedOf, writing}
 use Rattle.round_trip.specs.FewRounds.{Asks}
 

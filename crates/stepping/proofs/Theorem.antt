@@ -30,6 +30,7 @@ use Rattle.opening.specs.Steps.{stepOf, opener, openStart}
 use Rattle.opening.specs.Whole.{wholeIn}
 use Rattle.opening.specs.Agreement.{Closing, RunAgrees, Finished, by-closing, by-refusal}
 use Rattle.opening.proofs.Laws.Kept.{stepOf-kept}
+use Rattle.opening.proofs.Theorem.{all-room}
 use Rattle.vault.specs.Vault.{Begun, startRefused, begun, start, outcomeOf, stateOf, openedIn}
 use Rattle.vault.proofs.Theorem.{agrees}
 use Rattle.stepping.specs.Stepping.{stepping, ranBy, ranFrom}
@@ -226,7 +227,7 @@ module _ (t f : List ℕ) (n : ℕ) (k : Keys) (p : ℕ) (e : start t f ≡ begu
       → wholeIn k f p m ≡ refused r
   by-end r c m (inl s) = each-some (λ (q : Refusal). (m : ℕ) → wholeIn k f p m ≡ refused q) _ r (agreed .refusals) s c m
   by-end r c m (inr (l, g, q)) =
-      absurd (never-spent l g q (agreed .ends (omega (arith, l)) (taken-room _ g)))
+      absurd (never-spent l g q (agreed .ends (all-room k f p (rooms (length f) f (openStart k p) n) (omega (arith, l)) (taken-room _ g))))
 
   begun-refuse : (r : Refusal) → stepping (length f) f (openStart k p) n .outcome ≡ outcome.Refused r → Closing r
       → (m : ℕ) → wholeIn k f p m ≡ refused r

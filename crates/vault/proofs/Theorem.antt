@@ -4,21 +4,29 @@
 -- holds of the code. What the record says after a list of steps is in crate opening, specs/Agreement.
 -- Assumes nothing.
 use mathlib.Core.Path.{_≡_, ap, _∙_}
+use mathlib.Core.Logic.{_≢_}
 use mathlib.Core.List.{List}
-use Prim.Native.Nat.{ℕ, _<_}
+use Prim.Native.Nat.{ℕ, _≤_, _<_}
 use native.Mathlib.Omega.{arith}
-use lib.ListN.{length}
+use lib.ListN.{length, take}
 use Rattle.refusals.specs.declared.Refusal.{Refusal}
+use Rattle.refusals.specs.Limits.{fileLimit}
+use Rattle.fields.specs.Fields.{bytesAt}
+use Rattle.outer_header.specs.Kdbx4Header.{header}
+use Rattle.outer_header.specs.declared.Header.{Header}
+use Rattle.outer_header.specs.declared.Reading.the-variants as read
 use Rattle.outer_header.proofs.Laws.Accepted.{header-stands}
 use Rattle.opening.specs.declared.Keys.{Keys}
+use Rattle.opening.specs.declared.Phase.the-variants.{Ended}
 use Rattle.opening.specs.Decryption.{refused}
 use Rattle.opening.specs.Whole.{wholeIn}
 use Rattle.opening.specs.Steps.{openStart}
-use Rattle.opening.specs.Agreement.{RunAgrees}
+use Rattle.opening.specs.Agreement.{blockData, handedOver, plainAfter, RunAgrees}
 use Rattle.opening.proofs.Theorem as behind
 use Rattle.vault.specs.Vault.{start, startRefused, begun, stateOf, openedBy, openedIn}
-use Rattle.vault.specs.Agreement.{Agrees}
+use Rattle.vault.specs.Agreement.{EqualKeys, Agrees}
 use Rattle.vault.proofs.Laws.Start.{nonce-keysOf, start-begun}
+use Rattle.vault.proofs.Laws.Firsts.{begun-same, sameKeys-given}
 
 module _ (t f : List ℕ) where
   refused-whole : (r : Refusal) → start t f ≡ startRefused r → (n : ℕ) → openedIn t f n ≡ refused r
@@ -41,6 +49,29 @@ module _ (t f : List ℕ) where
       let q : 0 < p = omega (arith, s .place-is) in
       behind.agrees k n f p (header-stands f (s .said) (s .reads) .file-le) q (s .inside) rooms
 
+-- a second start with the same keys
+firsts-by : (t f : List ℕ) (k l : Keys) (p : ℕ) → start t f ≡ begun k p → k ≡ l → (g : List ℕ) → length g ≤ fileLimit
+    → (q : ℕ) → q ≤ length g → (rooms others : List ℕ) → plainAfter k f p rooms .phase ≢ Ended
+    → plainAfter l g q others .phase ≢ Ended → plainAfter k f p rooms .number ≡ plainAfter l g q others .number
+    → ((j : ℕ) → j < plainAfter k f p rooms .number → blockData f p j ≡ blockData g q j)
+    → handedOver k f p rooms ≡ handedOver l g q others
+firsts-by t f k l p e s g lg q iq rooms others =
+    rw (← s) (λ ef eg n same. begun-runs t f k p e rooms .firsts g q others lg iq ef eg n same)
+
+begun-firsts : (t f u g : List ℕ) (k l : Keys) (p q : ℕ) → start t f ≡ begun k p → start u g ≡ begun l q
+    → (h : Header) → header f ≡ read.Header h → EqualKeys (bytesAt f (h .seed)) t u
+    → take p f ≡ take q g
+    → (rooms others : List ℕ) → plainAfter k f p rooms .phase ≢ Ended → plainAfter l g q others .phase ≢ Ended
+    → plainAfter k f p rooms .number ≡ plainAfter l g q others .number
+    → ((j : ℕ) → j < plainAfter k f p rooms .number → blockData f p j ≡ blockData g q j)
+    → handedOver k f p rooms ≡ handedOver l g q others
+begun-firsts t f u g k l p q a b h i same e rooms others =
+    let x = start-begun t f k p a in
+    let y = start-begun u g l q b in
+    let s = sameKeys-given t f u g k l p q a b e h i same in
+    let z = begun-same t f u g k l p q x y e s in
+    firsts-by t f k l p a (z .keys-are) g (header-stands g (y .said) (y .reads) .file-le) q (y .inside) rooms others
+
 -- THE THEOREM
 pub agrees : (t f : List ℕ) → Agrees t f
 agrees t f =
@@ -49,4 +80,5 @@ agrees t f =
       state-is = begun-state t f;
       whole-is = begun-whole t f;
       after-start = begun-runs t f;
+      firsts = begun-firsts t f;
     }

@@ -1,6 +1,6 @@
 -- What figures that may be written keep to.
 --
--- In order: IsChecked, checked-as.
+-- In order: IsChecked, checked-as, and the other way round as-checked.
 -- Assumes nothing.
 use mathlib.Core.Path.{_≡_, refl, ap, _∙_}
 use mathlib.Core.Bool.{Bool, true, false, cond}
@@ -8,7 +8,7 @@ use mathlib.Core.List.{List}
 use Prim.Native.Nat.{ℕ, _≤_}
 use native.Mathlib.Omega.{arith}
 use lib.ListN.{length}
-use borrow.Author.Tests.{leb-true, eqb-true}
+use borrow.Author.Tests.{leb-true, eqb-true, le-leb, eq-eqb}
 use Rattle.refusals.specs.declared.Refusal.{Refusal}
 use Rattle.refusals.specs.declared.Outcome.{Outcome}
 use Rattle.refusals.specs.declared.Outcome.the-variants as outcome
@@ -91,3 +91,31 @@ module _ (minor : ℕ) (id seed nonce : List ℕ) (fig : Figures) (salt custom :
   checked-as e =
       let t = cond-as _ _ _ c e in
       checkedCipher-as (cipherOf id) (leb-true minor 1 (t .0)) refl (t .1)
+
+-- figures that may be written pass the checks
+sized-writable : (fig : Figures) (n : ℕ) → IsWritable fig n → saltSized fig n ≡ true
+unfolding saltSized IsWritable
+sized-writable (figures.AesKdf rounds) n w = eq-eqb n 32 (w .0)
+sized-writable (figures.Argon2d passes memory lanes) n w = refl
+sized-writable (figures.Argon2id passes memory lanes) n w = refl
+
+figures-writable : (c : Cipher) (fig : Figures) (salt custom : List ℕ) → IsWritable fig (length salt)
+    → customVerdict custom ≡ outcome.Accepted → checkedFigures c fig salt custom ≡ As c
+unfolding checkedFigures checkedCustom IsWritable
+figures-writable c (figures.AesKdf rounds) salt custom w v =
+    rw (le-leb rounds roundsLimit (w .1), le-leb roundsLeast rounds (w .2), v)
+figures-writable c (figures.Argon2d passes memory lanes) salt custom w v = rw (w, v)
+figures-writable c (figures.Argon2id passes memory lanes) salt custom w v = rw (w, v)
+
+pub as-checked : (minor : ℕ) (id seed nonce : List ℕ) (fig : Figures) (salt custom : List ℕ) (c : Cipher)
+    → IsChecked minor id seed nonce fig salt custom c → checked minor id seed nonce fig salt custom ≡ As c
+unfolding checked checkedCipher checkedSizes
+as-checked minor id seed nonce fig salt custom c k =
+    rw (
+      le-leb minor 1 (k .minor-le),
+      k .cipher-is,
+      eq-eqb (length seed) 32 (k .seed-long),
+      eq-eqb (length nonce) (nonceLength c) (k .nonce-long),
+      sized-writable fig (length salt) (k .writable),
+      figures-writable c fig salt custom (k .writable) (k .custom-sound),
+    )

@@ -5,6 +5,7 @@
 --   int32-of                     a size that is not negative is the number itself
 --   Passed, length-dataAt        a block that passes
 --   judge-data, judge-closing    a data block and the closing block pass
+--   judge-some                   a data block has a byte at least
 --   judge-refused                a refusal of the checks closes an opening
 -- Not here: bytes behind the closing block and padding (Refusals).
 -- Assumes nothing.
@@ -13,7 +14,7 @@ use mathlib.Core.Bool.{Bool, true, false, cond}
 use mathlib.Core.List.{List}
 use Prim.Native.Nat.{ℕ, _+_, _-_, _^_, _≤_}
 use native.Mathlib.Omega.{arith}
-use borrow.Author.Tests.{leb-true, eqb-true}
+use borrow.Author.Tests.{leb-true, eqb-true, eqb-false}
 use lib.Dec.{eqb, leb, ltb}
 use lib.ListN.{length, drop, length-drop}
 use lib.Seq.{length-take-le}
@@ -158,6 +159,18 @@ pub judge-data : (base f : List ℕ) (i p n : ℕ) → judge base f i p ≡ bloc
 judge-data base f i p n h =
     let s = before-size base f i p (block.Data n) (λ r e. never (cc)) h in
     judgeSize-data base f i p n (int32 (sizeAt f p)) refl (s .header-present) (s .found-is)
+
+judgeSize-some : (base f : List ℕ) (i p n : ℕ) (s : Size) → judgeSize base f i p s ≡ block.Data n → (n ≡ 0 → ⊥)
+unfolding judgeSize found
+judgeSize-some base f i p n Negative h = never (cc)
+judgeSize-some base f i p n (Of m) h =
+    let t = verdict-data (leb m (length f - (p + 36))) (holds base f i p m) (eqb m 0) m n h in
+    λ z. eqb-false m 0 (t .empty-is) (t .same ∙ z)
+
+pub judge-some : (base f : List ℕ) (i p n : ℕ) → judge base f i p ≡ block.Data n → (n ≡ 0 → ⊥)
+judge-some base f i p n h =
+    let s = before-size base f i p (block.Data n) (λ r e. never (cc)) h in
+    judgeSize-some base f i p n (int32 (sizeAt f p)) (s .found-is)
 
 pub judge-closing : (base f : List ℕ) (i p : ℕ) → judge base f i p ≡ block.Closing → Passed base f i p 0
 judge-closing base f i p h =

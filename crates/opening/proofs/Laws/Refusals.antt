@@ -6,7 +6,9 @@
 --   closed-step                         a step that closes gives a refusal that closes
 --   stays-step                          closed and ended stay
 --   moves-step                          a step with room that stays open goes on in the file
+--   keeps-step                          no step goes back in the file
 --   room-step                           fifteen bytes more than the block's size are room enough
+--   short-step                          no step hands over more than that
 -- Not here: what is handed over (Progress).
 -- Assumes nothing.
 use mathlib.Core.Path.{_≡_, refl, sym, _∙_}
@@ -21,6 +23,7 @@ use Rattle.words.proofs.Laws.Cases.{by-bool}
 use Rattle.refusals.specs.declared.Refusal.{Refusal}
 use Rattle.refusals.specs.declared.Refusal.the-variants.{NoRoom}
 use Rattle.refusals.specs.declared.Written.the-variants as written
+use Rattle.refusals.specs.Numbers.{countOf}
 use Rattle.pkcs7.specs.Pkcs7.{strip}
 use Rattle.ciphers.specs.declared.Cipher.{Cipher}
 use Rattle.ciphers.specs.declared.Cipher.the-variants.{Aes256, ChaCha20}
@@ -180,6 +183,31 @@ moves-step Open k f i p t n = moves-on (judge (k .base) f i p) k f i p t n
 moves-step Closed k f i p t n = λ a c. never (cc)
 moves-step Ended k f i p t n = λ a c. never (cc)
 
+-- no step goes back
+abbrev Keeps : ℕ → Reply Plain → Type 0
+Keeps p x = p ≤ x .next .at
+
+keeps-close : (v : Opened) (k : Keys) (i p : ℕ) (t : List ℕ) (n : ℕ) → Keeps p (plainClose v k i p t n)
+unfolding plainClose plain refuse
+keeps-close (refused r) k i p t n = omega arith
+keeps-close (opened b) k i p t n =
+    hand-both (Keeps p) n (drop (handed (k .cipher) (length t)) b) (plain Open i p t) (plain Ended (suc i) (p + 36) t)
+    (omega arith) (omega arith)
+
+keeps-on : (x : Block) (k : Keys) (f : List ℕ) (i p : ℕ) (t : List ℕ) (n : ℕ) → Keeps p (plainOn x k f i p t n)
+unfolding plainOn plain refuse
+keeps-on (block.Refused r) k f i p t n = omega arith
+keeps-on (block.Data s) k f i p t n =
+    hand-both (Keeps p) n (due k t (dataAt f p s)) (plain Open i p t)
+    (plain Open (suc i) (p + 36 + s) (t ++ dataAt f p s)) (omega arith) (omega arith)
+keeps-on block.Closing k f i p t n = keeps-close (closeOf k f p t) k i p t n
+
+pub keeps-step : (m : Phase) (k : Keys) (f : List ℕ) (i p : ℕ) (t : List ℕ) (n : ℕ) → Keeps p (plainIn m k f i p t n)
+unfolding plainIn plain refuse
+keeps-step Open k f i p t n = keeps-on (judge (k .base) f i p) k f i p t n
+keeps-step Closed k f i p t n = omega arith
+keeps-step Ended k f i p t n = omega arith
+
 -- a refusal that closes is not 17
 room-refused : (r : Refusal) → Closing r → written.Refused r ≢ written.Refused NoRoom
 room-refused r c = λ e. c .no-room (cc e)
@@ -209,3 +237,35 @@ unfolding plainIn refuse
 room-step Open k w f i p t n l = room-on (judge (k .base) f i p) k w f i p t n refl l
 room-step Closed k w f i p t n l = λ e. never (cc e)
 room-step Ended k w f i p t n l = λ e. never (cc e)
+
+-- at most m bytes
+abbrev Short : ℕ → Reply Plain → Type 0
+Short m x = countOf (x .answer .written) ≤ m
+
+short-close : (v : Opened) (k : Keys) → length (k .nonce) ≡ 16 → (f : List ℕ) (i p : ℕ) (t : List ℕ) (n m : ℕ)
+    → closeOf k f p t ≡ v → 15 ≤ m → Short m (plainClose v k i p t n)
+unfolding plainClose refuse
+short-close (refused r) k w f i p t n m e l = omega arith
+short-close (opened b) k w f i p t n m e l =
+    let r = payload-remainder (k .cipher) k w t b (closeOf-payload k f p t b e) in
+    hand-both (Short m) n (drop (handed (k .cipher) (length t)) b) (plain Open i p t) (plain Ended (suc i) (p + 36) t)
+    (omega arith) (omega (arith, r .short))
+
+short-on : (x : Block) (k : Keys) → length (k .nonce) ≡ 16 → (f : List ℕ) (i p : ℕ) (t : List ℕ) (n : ℕ)
+    → judge (k .base) f i p ≡ x → Short (sizeAt f p + 15) (plainOn x k f i p t n)
+unfolding plainOn refuse
+short-on (block.Refused r) k w f i p t n e = omega arith
+short-on (block.Data s) k w f i p t n e =
+    let h = judge-data (k .base) f i p s e in
+    hand-both (Short (sizeAt f p + 15)) n (due k t (dataAt f p s)) (plain Open i p t)
+    (plain Open (suc i) (p + 36 + s) (t ++ dataAt f p s)) (omega arith)
+    (omega (arith, length-due-le k t (dataAt f p s), length-dataAt h, h .size-is))
+short-on block.Closing k w f i p t n e =
+    short-close (closeOf k f p t) k w f i p t n (sizeAt f p + 15) refl (omega arith)
+
+pub short-step : (m : Phase) (k : Keys) → length (k .nonce) ≡ 16 → (f : List ℕ) (i p : ℕ) (t : List ℕ) (n : ℕ)
+    → Short (sizeAt f p + 15) (plainIn m k f i p t n)
+unfolding plainIn refuse
+short-step Open k w f i p t n = short-on (judge (k .base) f i p) k w f i p t n refl
+short-step Closed k w f i p t n = omega arith
+short-step Ended k w f i p t n = omega arith

@@ -111,12 +111,12 @@ stepOn-standing (block.Data s) k w f i p t n h =
 stepOn-standing block.Closing k w f i p t n h =
     closeBy-standing k _ (closeOf k f p t) i p t n (closeOf-standing k w f p t)
 
--- a step from a state whose place has room for what was taken
+-- a step from a state that is sound while it is open
 pub stepOf-standing : (m : Phase) (k : Keys) → length (k .nonce) ≡ 16 → (f : List ℕ) (i p : ℕ) (t : List ℕ) (n : ℕ)
-    → sound i p (length t) ≡ true
+    → (m ≡ Open → sound i p (length t) ≡ true)
     → stepOf f (standingIn m k i p t) n ≡ standingReply k (plainIn m k f i p t n)
 unfolding stepOf standingIn opener markOf stepIn plainIn standingReply refuse standing plain blank
-stepOf-standing Open k w f i p t n h = rw h (stepOn-standing (judge (k .base) f i p) k w f i p t n refl)
+stepOf-standing Open k w f i p t n h = rw (h refl) (stepOn-standing (judge (k .base) f i p) k w f i p t n refl)
 stepOf-standing Closed k w f i p t n h = refl
 stepOf-standing Ended k w f i p t n h = refl
 
