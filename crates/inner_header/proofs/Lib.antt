@@ -1,3 +1,4 @@
 pub mod Laws
 pub mod RoundTrip
+pub mod Accepts
 pub mod Examples

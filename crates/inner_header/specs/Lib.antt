@@ -2,3 +2,4 @@ pub mod Answers
 pub mod InnerHeader
 pub mod Tally
 pub mod Writer
+pub mod Writable
