@@ -5,9 +5,9 @@
 --   writable-writes    THE THEOREM: what is not refused is written, and the answer is the payload's length
 --   writable-reads     so what is not refused is written, and read with the same algorithm, key, attachments and document
 -- Assumes nothing.
-use mathlib.Core.Path.{_≡_, refl}
+use mathlib.Core.Path.{_≡_}
 use mathlib.Core.List.{List, [], _∷_}
-use Prim.Native.Nat.{ℕ, _^_, _≤_, _<_}
+use Prim.Native.Nat.{ℕ, _^_, _<_}
 use native.Mathlib.Omega.{arith}
 use lib.ListN.{length, length-append}
 use borrow.Author.Tests.{le-leb}
@@ -19,8 +19,9 @@ use Rattle.fields.specs.Fields.{fieldBytes}
 use Rattle.fields.proofs.Laws.Written.{length-fieldBytes}
 use Rattle.inner_header.specs.Writer.{run, runBytes, runThen, verdict, sized, planned, writing, payloadBytes}
 use Rattle.inner_header.specs.Writable.{Flagged, sizeOf, Writable}
+use Rattle.inner_header.specs.ReadBack.{Reads}
 use Rattle.inner_header.proofs.Laws.Values.{Values, run-values}
-use Rattle.inner_header.proofs.RoundTrip.{Reads, read-written}
+use Rattle.inner_header.proofs.RoundTrip.{read-written}
 
 values-flagged : (vs : List (List ℕ)) → Flagged vs → length (runBytes vs) < 2 ^ 31 → Values vs
 values-flagged [] f h = omega arith

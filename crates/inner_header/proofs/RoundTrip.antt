@@ -1,17 +1,18 @@
 -- What the reader and the writer owe each other (document 01, "Inner header").
 --
 -- In order:
---   Shows, attachment-answers       of a payload that is accepted, every index below the count answers flags and a
+--   attachment-answers              of a payload that is accepted, every index below the count answers flags and a
 --                                   content within the payload
 --   attachment-past                 .. and every other index is 8
 --   attachment-refused              a payload that is refused is refused for every attachment, with the same number
 --   written-bytes, written-front    where the writer answers n, the first n bytes of the lent output are the payload
---   Reads, read-written             the reader accepts it, with the same algorithm, key and document, and as many
+--   read-written                    the reader accepts it, with the same algorithm, key and document, and as many
 --                                   attachments as the run has fields
 --   attachment-written              each attachment answers the flags and the content of the run's field of that index
 --   attachment-written-past         .. and every other index is 8
 --   attachment-values               where the run is made of values, attachment i answers the first byte and the rest
 --                                   of value i
+-- Not here: what is read of a payload that was written (specs, ReadBack).
 -- Assumes nothing.
 use mathlib.Core.Path.{_≡_, refl, ap, _∙_}
 use mathlib.Core.Bool.{true}
@@ -38,7 +39,6 @@ use Rattle.fields.specs.Fields.{bytesAt, nowhere}
 use Rattle.fields.proofs.Laws.Written.{further, getD-inside, bytesAt-inside}
 use Rattle.inner_header.specs.declared.Inner.{Inner}
 use Rattle.inner_header.specs.declared.Read.the-variants as read
-use Rattle.inner_header.specs.declared.Attachment.{Attachment}
 use Rattle.inner_header.specs.declared.Attachment.the-variants as answer
 use Rattle.refusals.specs.declared.Written.the-variants as written
 use Rattle.inner_header.specs.InnerHeader.{
@@ -57,6 +57,7 @@ use Rattle.inner_header.specs.InnerHeader.{
   attachmentOf,
   attachment,
 }
+use Rattle.inner_header.specs.ReadBack.{contentOf, Shows, Reads, ShowsField, ShowsValue}
 use Rattle.inner_header.specs.Writer as writer
 use Rattle.inner_header.specs.Writer.{Run, Fine, run, runBytes, verdict, payloadBytes, writing, due, writtenBytes}
 use Rattle.inner_header.proofs.Laws.Sound.{opened-sound}
@@ -79,17 +80,6 @@ use Rattle.inner_header.proofs.Laws.Payload.{
   document-payload,
   walk-payload,
 }
-
--- the content of an attachment whose value stands at a place: all but the flags byte
-abbrev pub contentOf : Place → Place
-contentOf p = record { start = p .start + 1; length = p .length - 1 }
-
--- an answer with a content that lies within the payload
-pub record Shows (s : List ℕ) (a : Attachment) : Type 0 where
-  pub flags : ℕ
-  pub content : Place
-  pub answers : a ≡ answer.At flags content
-  pub within : content .start + content .length ≤ length s
 
 module _ (s : List ℕ) (h : Inner) (i : ℕ) where
   answers-of : (w : Walked) → opened s ≡ w → innerOf s w ≡ read.Header h → i < h .attachments
@@ -147,23 +137,6 @@ listed-small a t =
     by-bool (eqb a 2)
     (λ u. let e = eqb-true a 2 u in omega arith)
     (λ u. let e = eqb-true a 3 (rw u at t) in omega arith)
-
--- what is read of a payload that was written
-pub record Reads (algorithm : ℕ) (key attachments document s : List ℕ) : Type 0 where
-  pub header : Inner
-  pub places : List Place
-  pub accepts : inner s ≡ read.Header header
-  pub algorithm-is : header .algorithm ≡ algorithm
-  pub key-is : bytesAt s (header .key) ≡ key
-  pub run-is : run attachments ≡ Fine places
-  pub attachments-is : header .attachments ≡ length places
-  pub document-is : drop (header .document) s ≡ document
-
--- an attachment that is read of a payload that was written: the flags and the content of the run's field at a place
-pub record ShowsField (attachments : List ℕ) (p : Place) (s : List ℕ) (a : Attachment) : Type 0 where
-  pub content : Place
-  pub answers : a ≡ answer.At (getD attachments (p .start) 0) content
-  pub content-is : bytesAt s content ≡ bytesAt attachments (contentOf p)
 
 module _ (algorithm : ℕ) (key attachments document : List ℕ) (room n : ℕ)
     (wrote : writing algorithm key attachments document room ≡ written.Wrote n) where
@@ -254,12 +227,6 @@ module _ (algorithm : ℕ) (key attachments document : List ℕ) (room n : ℕ)
       let m : length (placed b l) ≤ i = rw (length-placed b l) h in
       let d : 19 + length key + length attachments - 5 ≡ 14 + length key + length attachments = omega arith in
       rw (opened-written l e, le-ltb i (length (placed b l)) m, d)
-
--- a value's first byte, and the rest of it
-pub record ShowsValue (v s : List ℕ) (a : Attachment) : Type 0 where
-  pub content : Place
-  pub answers : a ≡ answer.At (getD v 0 0) content
-  pub content-is : bytesAt s content ≡ drop 1 v
 
 take-behind : (n : ℕ) (l : List ℕ) → 1 ≤ n → take (n - 1) (drop 1 l) ≡ drop 1 (take n l)
 take-behind zero l h = absurd (omega arith)

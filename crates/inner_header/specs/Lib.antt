@@ -3,3 +3,4 @@ pub mod InnerHeader
 pub mod Tally
 pub mod Writer
 pub mod Writable
+pub mod ReadBack

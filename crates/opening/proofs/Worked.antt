@@ -9,16 +9,14 @@
 use mathlib.Core.Path.{_≡_, refl, ap, _∙_}
 use mathlib.Core.Logic.{_≢_}
 use mathlib.Core.List.{List, [], _∷_, _++_}
-use Prim.Native.Nat.{ℕ, suc, _+_, _-_, _*_, _/_, _%_, _≤_, _<_}
+use Prim.Native.Nat.{ℕ, suc, _+_, _-_, _*_, _/_, _%_, _≤_}
 use native.Mathlib.Omega.{arith}
 use borrow.Author.Tests.{eq-eqb, ne-eqb, le-ltb}
 use lib.ListN.{length, take, drop, length-append, length-drop}
 use lib.Seq.{length-take-le}
 use Rattle.words.specs.Endian.{Bytes}
 use Rattle.words.specs.Block.{IsBlock}
-use Rattle.refusals.specs.declared.Written.{Written}
 use Rattle.refusals.specs.declared.Written.the-variants.{Wrote}
-use Rattle.refusals.specs.Limits.{fileLimit}
 use Rattle.pkcs7.specs.Pkcs7.{padding, strip}
 use Rattle.pkcs7.proofs.Laws.Padding.{padding-le}
 use Rattle.ciphers.specs.declared.Cipher.{Cipher}
@@ -27,12 +25,11 @@ use Rattle.block_stream.specs.Blocks.{judge, dataAt}
 use Rattle.block_stream.specs.declared.Block.the-variants as block
 use Rattle.opening.specs.declared.Keys.{Keys}
 use Rattle.opening.specs.declared.Phase.the-variants.{Open, Ended}
-use Rattle.opening.specs.Decryption.{Opened, opened, aesFrom, decryptionBy, handed, stripped, payloadBy, payload}
+use Rattle.opening.specs.Decryption.{opened, aesFrom, decryptionBy, handed, stripped, payloadBy, payload}
 use Rattle.opening.specs.Whole.{closeOf}
-use Rattle.opening.specs.Runs.{Answer, Reply, answers}
+use Rattle.opening.specs.Runs.{Reply, answers}
 use Rattle.opening.specs.Plain.{plain, plainStart, due, plainClose, plainOn, plainIn, plainStep}
 use Rattle.opening.specs.Steps.{lastBy}
-use Rattle.opening.specs.Standing.{prevOf, heldOf}
 use Rattle.opening.specs.Agreement.{stepAnswers}
 use Rattle.opening.specs.Worked.{OpenedBytes, closingAdds, writtens, Blocks5And27, ClosingBehind, ciphertext}
 use Rattle.opening.proofs.Laws.Replies.{hand-enough}

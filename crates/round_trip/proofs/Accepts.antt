@@ -9,9 +9,8 @@
 --   writable-plain                 with no custom dictionary, any payload of up to 16,000,000 bytes is written, by each KDF
 -- Assumes nothing.
 use mathlib.Core.Path.{_≡_, refl, sym, ap, _∙_}
-use mathlib.Core.Bool.{true}
 use mathlib.Core.List.{List, []}
-use Prim.Native.Nat.{ℕ, _+_, _*_, _≤_}
+use Prim.Native.Nat.{ℕ, _+_, _≤_}
 use native.Mathlib.Omega.{arith}
 use lib.ListN.{length}
 use borrow.Author.Tests.{le-leb}
@@ -22,7 +21,7 @@ use Rattle.slices.specs.Over.{over}
 use Rattle.slices.proofs.Laws.Same.{same-true}
 use Rattle.refusals.specs.declared.Written.the-variants as written
 use Rattle.refusals.specs.declared.Outcome.the-variants.{Accepted}
-use Rattle.refusals.specs.Limits.{fileLimit, payloadLimit, writtenBlock, argon2Fits}
+use Rattle.refusals.specs.Limits.{fileLimit, payloadLimit, writtenBlock}
 use Rattle.refusals.proofs.Laws.Limits.{argon2Fits-bounds, bounds-argon2Fits}
 use Rattle.ciphers.specs.Ciphers.{identifier, cipherOf, nonceLength}
 use Rattle.ciphers.specs.declared.Cipher.{Cipher}
