@@ -4,8 +4,8 @@
 -- blocks of any positive size; writing-opens, of what the writer's contract says it answers and leaves.
 -- Not here: which figures the writer takes (Accepts).
 -- Assumes nothing.
-use mathlib.Core.Path.{_≡_, refl, sym, ap, ap₂, _∙_}
-use mathlib.Core.List.{List, [], _++_, append-assoc}
+use mathlib.Core.Path.{_≡_, refl, sym, ap, _∙_}
+use mathlib.Core.List.{List, [], _++_}
 use Prim.Native.Nat.{ℕ, suc, _+_, _-_, _≤_, _<_}
 use native.Mathlib.Omega.{arith}
 use lib.ListN.{length, take, drop, replicate, length-append}
@@ -20,13 +20,7 @@ use Rattle.refusals.specs.Limits.{fileLimit, writtenBlock}
 use Rattle.refusals.specs.declared.Written.the-variants as written
 use Rattle.ciphers.specs.declared.Cipher.{Cipher}
 use Rattle.ciphers.specs.declared.Cipher.the-variants.{Aes256, ChaCha20}
-use Rattle.ciphers.proofs.Laws.{nonceLength-le}
-use Rattle.outer_header.specs.declared.Header.{Header}
-use Rattle.outer_header.specs.declared.Reading.{Reading}
-use Rattle.header_writer.specs.ReadsBack.{ReadsBack, writtenHeader}
 use Rattle.header_writer.specs.declared.Checked.the-variants.{As}
-use Rattle.header_writer.proofs.Laws.CheckedLaws.{IsChecked, checked-as}
-use Rattle.header_writer.proofs.RoundTrip.{header-read-back}
 use Rattle.opening.specs.declared.Keys.{Keys}
 use Rattle.opening.specs.Decryption.{opened, payloadBy, payload}
 use Rattle.opening.specs.Whole.{walk, whole, roomed, wholeIn}
@@ -36,14 +30,13 @@ use Rattle.opening.specs.Runs.{withRoom}
 use Rattle.opening.specs.Agreement.{stepAnswers, Roomy, OpenedStepwise}
 use Rattle.opening.proofs.Laws.Payload.{payload-aes, payload-chaCha}
 use Rattle.opening.proofs.Converse.{opened-steps, opened-stepwise}
-use Rattle.opening.proofs.Laws.Nonce.{length-padded}
-use Rattle.vault_keys.specs.VaultKeys.{keysWith, headerHash, headerTag}
-use Rattle.vault_keys.proofs.Laws.{length-headerHash, length-headerTag, keysFor-cipher, keysFor-nonce}
-use Rattle.vault.specs.Vault.{keysOf, startAt, startIn, start, begun, openedBy, openedIn}
+use Rattle.vault.specs.Vault.{start, begun, openedBy, openedIn}
 use Rattle.writer.specs.Written.{Figures, sizes, encryptionBy, cut, blocksFrom, headerOf, fileWith, fileCut, fileBytes, checkedOf, writing, shown}
+use Rattle.writer.specs.Stretches.{summed}
 use Rattle.writer.proofs.Laws.Cut.{length-blocks}
+use Rattle.writer.proofs.Laws.Files.{length-summed}
 use Rattle.round_trip.specs.Opens.{fileKeys, firstBlock, Opens, WrittenOpens}
-use Rattle.round_trip.proofs.Laws.Start.{startAt-written}
+use Rattle.round_trip.proofs.Laws.Started.{cipher-is, nonce-is, length-nonce, start-written}
 use Rattle.round_trip.proofs.Laws.Blocks.{walk-blocks}
 use Rattle.round_trip.proofs.Laws.Success.{success}
 
@@ -61,89 +54,40 @@ module _ (z : ℕ) (some : 0 < z) (g : Figures) (c : Cipher) (t b : List ℕ) (o
   abbrev k : Keys
   k = fileKeys g c t
 
-  abbrev h : List ℕ
-  h = headerOf g c
-
   abbrev text : List ℕ
   text = encryptionBy c k b
 
   abbrev blocks : List ℕ
   blocks = blocksFrom (k .base) 0 (cut z text)
 
-  -- the header first, and the header, hash and tag before the blocks
-  file-is : f ≡ h ++ (headerHash h ++ (headerTag (k .base) h ++ blocks))
-  unfolding fileCut fileWith
-  file-is = rw (append-assoc, append-assoc)
-
   abbrev front : List ℕ
-  front = h ++ headerHash h ++ headerTag (k .base) h
+  front = summed (k .base) (headerOf g c)
 
   file-blocks : f ≡ front ++ blocks
   unfolding fileCut fileWith
   file-blocks = refl
 
   length-front : length front ≡ firstBlock g c
-  length-front =
-      rw (length-append, length-append) (omega (arith, length-headerHash h, length-headerTag (k .base) h))
-
-  checks : IsChecked (g .minor) (g .cipher) (g .seed) (g .nonce) (g .kdf) (g .salt) (g .custom) c
-  unfolding checkedOf
-  checks = checked-as (g .minor) (g .cipher) (g .seed) (g .nonce) (g .kdf) (g .salt) (g .custom) c ok
-
-  nonce-is : k .nonce ≡ padded (g .nonce)
-  unfolding keysWith
-  nonce-is = keysFor-nonce c _ (padded (g .nonce)) _
-
-  nonce-le : length (g .nonce) ≤ 16
-  nonce-le = let n = nonceLength-le c in let e = checks .nonce-long in omega arith
+  length-front = length-summed (k .base) (headerOf g c)
 
   nonce-16 : length (k .nonce) ≡ 16
-  nonce-16 = ap length nonce-is ∙ length-padded (g .nonce) nonce-le
+  nonce-16 = length-nonce g c t ok
 
   nonce-block : IsBlock (k .nonce)
   unfolding padded
   nonce-block =
       record {
         size = nonce-16;
-        bytes = rw nonce-is
+        bytes = rw (nonce-is g c t)
             (bytes-append (g .nonce) (replicate (16 - length (g .nonce)) 0) nonce-bytes
             (bytes-replicate (16 - length (g .nonce)) 0 (omega arith)));
       }
 
-  cipher-is : k .cipher ≡ c
-  unfolding keysWith
-  cipher-is = keysFor-cipher c _ (padded (g .nonce)) _
-
   payload-is : payload k text ≡ opened b
-  payload-is = ap (λ (x : Cipher). payloadBy x k text) cipher-is ∙ payload-by c k b nonce-block payload-bytes
-
-  -- the reader finds the header that was written
-  back : ReadsBack (g .minor) c (g .seed) (g .nonce) (g .kdf) (g .salt) (g .custom) f
-      (writtenHeader (g .minor) c (g .kdf) (length (g .salt)) (length (g .custom)))
-  unfolding checkedOf headerOf
-  back =
-      rw file-is
-      (header-read-back (g .minor) (g .cipher) (g .seed) (g .nonce) (g .kdf) (g .salt) (g .custom) c
-      (headerHash h ++ (headerTag (k .base) h ++ blocks)) ok (rw (← file-is) fits))
-
-  abbrev said : Header
-  said = writtenHeader (g .minor) c (g .kdf) (length (g .salt)) (length (g .custom))
-
-  keys-are : keysOf t f said ≡ k
-  unfolding keysOf
-  keys-are = ap₂ (λ (x y : List ℕ). keysWith c x (padded y) t) (back .seed-is) (back .nonce-is)
-
-  length-is : said .length ≡ length h
-  unfolding headerOf
-  length-is = back .length-is
+  payload-is = ap (λ (x : Cipher). payloadBy x k text) (cipher-is g c t) ∙ payload-by c k b nonce-block payload-bytes
 
   starts : start t f ≡ begun k (firstBlock g c)
-  unfolding start startIn
-  starts =
-      ap (λ (r : Reading). startIn t f r) (back .header-is)
-      ∙ ap₂ (λ (n : ℕ) (x : Keys). startAt f n x) length-is keys-are
-      ∙ ap (λ (x : List ℕ). startAt x (length h) k) file-is
-      ∙ startAt-written h blocks k
+  starts = rw file-blocks (start-written g c t blocks ok (rw (← file-blocks) fits))
 
   text-le : length text ≤ length f
   text-le =
