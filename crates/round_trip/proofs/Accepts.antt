@@ -3,6 +3,7 @@
 -- In order:
 --   kdf-writable, writable-kdf     a KDF's figures within their bounds pass the checks, and no others
 --   length-fileBytes               how many bytes a file has
+--   checked-writes                 what passes the checks is written, where it fits
 --   writable-writes                THE THEOREM: what is not refused is written, and the answer is the file's length
 --   writes-writable                .. and nothing else is
 --   writable-opens                 so what is not refused is written and opens
@@ -72,7 +73,7 @@ module _ (g : Figures) (c : Cipher) (t b : List ℕ) (e : checkedOf g ≡ As c) 
   unfolding checkedOf
   sized = checked-sized (g .minor) (g .cipher) (g .seed) (g .nonce) (g .kdf) (g .salt) (g .custom) c e
 
-  length-fileBytes : length (fileBytes g c t b) ≡ sizeOf g c b
+  pub length-fileBytes : length (fileBytes g c t b) ≡ sizeOf g c b
   unfolding fileCut headerOf
   length-fileBytes =
       length-file (g .minor) c (g .seed) (g .nonce) (g .kdf) (g .salt) (g .custom) sized t b
@@ -90,15 +91,21 @@ checked-writable g c b n w =
       custom-sound = w .custom-sound;
     })
 
+-- figures that pass the header's checks are written, where payload and file are within their limits and there is room
+pub checked-writes : (g : Figures) (c : Cipher) (t b : List ℕ) (n : ℕ) → checkedOf g ≡ As c → length b ≤ payloadLimit
+    → sizeOf g c b ≤ fileLimit → sizeOf g c b ≤ n
+    → writing g t b n ≡ written.Wrote (sizeOf g c b)
+checked-writes g c t b n e p f r =
+    sym (writing-as g c t b n e)
+    ∙ ap (λ (x : ℕ). settled sizes (length b) x n) (length-fileBytes g c t b e)
+    ∙ sym (settled-wrote (length b) (sizeOf g c b) n (le-leb (length b) payloadLimit p)
+    (le-leb (sizeOf g c b) fileLimit f) r)
+
 -- THE THEOREM
 pub writable-writes : (g : Figures) (c : Cipher) (t b : List ℕ) (n : ℕ) → Writable g c b n
     → writing g t b n ≡ written.Wrote (sizeOf g c b)
 writable-writes g c t b n w =
-    let e = checked-writable g c b n w in
-    sym (writing-as g c t b n e)
-    ∙ ap (λ (x : ℕ). settled sizes (length b) x n) (length-fileBytes g c t b e)
-    ∙ sym (settled-wrote (length b) (sizeOf g c b) n (le-leb (length b) payloadLimit (w .payload-le))
-    (le-leb (sizeOf g c b) fileLimit (w .file-le)) (w .room))
+    checked-writes g c t b n (checked-writable g c b n w) (w .payload-le) (w .file-le) (w .room)
 
 -- .. and the other way round
 pub writes-writable : (g : Figures) (t b : List ℕ) (n m : ℕ) → writing g t b n ≡ written.Wrote m → IsWritten g b n m
@@ -147,7 +154,7 @@ blocksLength-le : (n : ℕ) → n ≤ 16_000_016 → blocksLength n ≤ 16_010_0
 unfolding blocksLength blockCount writtenBlock
 blocksLength-le n h = omega arith
 
-size-plain : (c : Cipher) (fig : KdfFigures) (l n : ℕ) → KdfTaken fig l → n ≤ 16_000_000
+pub size-plain : (c : Cipher) (fig : KdfFigures) (l n : ℕ) → KdfTaken fig l → n ≤ 16_000_000
     → fileLength c fig l 0 n ≤ fileLimit
 unfolding fileLength headerLength fileLimit
 size-plain c fig l n k h =

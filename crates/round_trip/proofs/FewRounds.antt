@@ -2,7 +2,7 @@
 --
 -- In order:
 --   least-is, most-is              the bounds
---   checked-few, checked-enough    the writer's checks decide by the rounds
+--   checked-few, checked-many, checked-enough    the writer's checks decide by the rounds
 --   read-few, read-enough          .. and what the reader says to such a header
 --   begins-few                     .. and to any other that passes the checks before
 --   reader-least, writer-least     what is accepted, and what is written
@@ -14,15 +14,14 @@ use Prim.Native.Nat.{ℕ, _≤_, _<_}
 use native.Mathlib.Omega.{arith}
 use lib.ListN.{length}
 use borrow.Author.Tests.{le-leb, lt-leb, eq-eqb}
-use Rattle.slices.proofs.Laws.Same.{same-refl}
-use Rattle.refusals.specs.declared.Refusal.the-variants.{TooFewRounds}
+use Rattle.refusals.specs.declared.Refusal.the-variants.{TooManyRounds, TooFewRounds}
 use Rattle.refusals.specs.declared.Outcome.the-variants.{Accepted}
 use Rattle.refusals.specs.declared.Written.the-variants as written
 use Rattle.refusals.specs.Limits.{fileLimit, roundsLeast, roundsLimit}
 use Rattle.refusals.proofs.Laws.Limits.{rounds-some}
 use Rattle.ciphers.specs.declared.Cipher.{Cipher}
-use Rattle.kdf_dictionary.specs.Kdf.{aesKdfUuid, IsWritable}
-use Rattle.kdf_dictionary.specs.KdfDictionary.{aesKdfIn, aesKdfOf, listedAs, listedIn, uuidIn, uuidOf, kdfIn, kdfOf}
+use Rattle.kdf_dictionary.specs.Kdf.{IsWritable}
+use Rattle.kdf_dictionary.specs.KdfDictionary.{aesKdfIn, kdfOf}
 use Rattle.kdf_dictionary.specs.declared.AesKdf.{AesKdf}
 use Rattle.kdf_dictionary.specs.declared.Kdf.the-variants as kdf
 use Rattle.kdf_dictionary.specs.declared.Reading.the-variants as asks
@@ -32,7 +31,7 @@ use Rattle.kdf_dictionary.proofs.Laws.Asks.{IsAsked}
 use Rattle.outer_header.specs.Kdbx4Header.{header}
 use Rattle.outer_header.specs.declared.Header.{Header}
 use Rattle.outer_header.specs.declared.Reading.the-variants as read
-use Rattle.outer_header.proofs.Laws.Accepted.{header-judged, refuses-judged, header-stands}
+use Rattle.outer_header.proofs.Laws.Accepted.{header-stands}
 use Rattle.header_writer.specs.Written.{customVerdict, headerBytes, checkedCustom, saltSized, checkedFigures, checkedSizes, checkedCipher, checked}
 use Rattle.header_writer.specs.ReadsBack.{roundsItem, writtenHeader}
 use Rattle.header_writer.specs.declared.Checked.the-variants.{As, Refused}
@@ -43,6 +42,7 @@ use Rattle.vault.specs.Vault.{startRefused, startIn, start, openedBy, openedIn}
 use Rattle.writer.specs.Written.{Figures, sizes, headerOf, checkedOf, writing}
 use Rattle.writer.proofs.Laws.Checks.{writing-refused, shown-refused}
 use Rattle.round_trip.specs.FewRounds.{Begins, roundsAt, Asks, FewRounds}
+use Rattle.round_trip.proofs.Laws.Begun.{kdf-begins, begins-refuses}
 use Rattle.round_trip.proofs.Laws.Success.{success}
 
 least-is : roundsLeast ≡ 6_000
@@ -72,6 +72,10 @@ module _ (c : Cipher) (rounds : ℕ) (g : Figures) (a : Asks c rounds g) where
   checked-few few =
       let within : rounds ≤ roundsLimit = omega (arith, rounds-some) in
       checked-asks ∙ rw (le-leb rounds roundsLimit within, lt-leb roundsLeast rounds few)
+
+  pub checked-many : roundsLimit < rounds → checkedOf g ≡ Refused (TooManyRounds 0)
+  unfolding checkedFigures
+  checked-many many = checked-asks ∙ rw (lt-leb rounds roundsLimit many)
 
   checked-enough : roundsLeast ≤ rounds → rounds ≤ roundsLimit → customVerdict (g .custom) ≡ Accepted → checkedOf g ≡ As c
   unfolding checkedFigures checkedCustom
@@ -104,15 +108,12 @@ module _ (c : Cipher) (rounds : ℕ) (g : Figures) (a : Asks c rounds g) where
 -- a file that begins with a header of few rounds
 module _ (rounds : ℕ) (s : List ℕ) (i : Begins rounds s) (few : rounds < roundsLeast) where
   kdf-few : kdfOf s (i .fields .kdf) ≡ asks.Refused (TooFewRounds (roundsAt rounds s i))
-  unfolding kdfOf kdfIn uuidOf uuidIn listedAs listedIn aesKdfOf aesKdfIn
+  unfolding aesKdfIn
   kdf-few =
       let k = i .has-rounds in
       let within : rounds ≤ roundsLimit = omega (arith, rounds-some) in
-      rw (
-        k .sound,
-        eq-eqb _ 16 (k .uuid-long),
-        k .uuid-is,
-        same-refl aesKdfUuid,
+      kdf-begins rounds s i
+      ∙ rw (
         eq-eqb _ 32 (k .seed-long),
         k .rounds-given,
         k .rounds-are,
@@ -121,11 +122,7 @@ module _ (rounds : ℕ) (s : List ℕ) (i : Begins rounds s) (few : rounds < rou
       )
 
   begins-few : header s ≡ read.Refused (TooFewRounds (roundsAt rounds s i))
-  begins-few =
-      header-judged s (i .minor) (i .end) (i .fields) (i .fits) (i .long) (i .first-is) (i .second-is) (i .minor-le)
-      (i .version-is) (i .walk-is)
-      ∙ refuses-judged s (i .fields) (i .minor) (i .end) (i .cipher) (TooFewRounds (roundsAt rounds s i)) (i .all-present) (i .cipher-is)
-      (i .uncompressed) (i .nonce-long) kdf-few
+  begins-few = begins-refuses rounds s i (TooFewRounds (roundsAt rounds s i)) kdf-few
 
   start-few : (t : List ℕ) → start t s ≡ startRefused (TooFewRounds (roundsAt rounds s i))
   unfolding start startIn

@@ -4,6 +4,7 @@
 --   IsJudged, judged-accepts    the checks after the end field that an accepted header passed, and what it says
 --   accepts-judged, refuses-judged    who passes them is accepted; who passes them up to the KDF dictionary is refused as it is
 --   IsHeader, header-accepts    all checks in order
+--   header-body                 those of the first twelve bytes passed, the fields decide
 --   header-judged               those up to the end field passed, those after it decide
 --   accepts-header              who passes them all is accepted
 --   HeaderStands, header-stands    limits, lengths, and places within the header; of the KDF's figures (Asks, IsAsked)
@@ -223,7 +224,7 @@ header-accepts s h =
     (λ v. rw (t, u, v) (λ e. absurd (refused-never _ h e)))))
     (λ t. rw t (λ e. absurd (refused-never _ h e)))
 
-header-body : (s : List ℕ) (minor : ℕ) → length s ≤ fileLimit → 12 ≤ length s → le 4 s 0 ≡ 0x9AA2D903
+pub header-body : (s : List ℕ) (minor : ℕ) → length s ≤ fileLimit → 12 ≤ length s → le 4 s 0 ≡ 0x9AA2D903
     → le 4 s 4 ≡ 0xB54BFB67
     → minor ≤ 1
     → le 4 s 8 ≡ 0x40000 + minor

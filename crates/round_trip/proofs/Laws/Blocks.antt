@@ -1,6 +1,7 @@
 -- The whole opener over written blocks: it takes them all, and the ciphertext is that which was cut into them.
 --
--- In order: walk-closing (at the closing block), walk-blocks (from any block on).
+-- In order: found-closing, found-data, data-written (a written block, as it is judged, and its data); walk-closing (at
+-- the closing block), walk-blocks (from any block on).
 -- Assumes nothing.
 use mathlib.Core.Path.{_≡_, refl, sym, ap, _∙_}
 use mathlib.Core.List.{List, [], _∷_, _++_, append-assoc, append-nil}
@@ -27,16 +28,16 @@ empty : (t : List ℕ) → length t ≡ 0 → t ≡ []
 empty [] h = refl
 empty (x ∷ t) h = absurd (omega arith)
 
-found-closing : (n : ℕ) → n ≡ 0 → found n ≡ Closing
+pub found-closing : (n : ℕ) → n ≡ 0 → found n ≡ Closing
 unfolding found
 found-closing n h = rw (eq-eqb n 0 h)
 
-found-data : (n : ℕ) → (n ≡ 0 → ⊥) → found n ≡ Data n
+pub found-data : (n : ℕ) → (n ≡ 0 → ⊥) → found n ≡ Data n
 unfolding found
 found-data n h = rw (ne-eqb n 0 h)
 
 -- the data of a block that stands behind s
-data-written : (base s d r : List ℕ) (i : ℕ)
+pub data-written : (base s d r : List ℕ) (i : ℕ)
     → dataAt (s ++ (blockBytes base i d ++ r)) (length s) (length d) ≡ d
 unfolding blockBytes
 data-written base s d r i =

@@ -84,7 +84,8 @@ module _ (g : Figures) (c : Cipher) (t r : List ℕ) (ok : checkedOf g ≡ As c)
   unfolding headerOf
   length-is = back .length-is
 
-  pub start-written : start t (summed (fileKeys g c t .base) (headerOf g c) ++ r) ≡ begun (fileKeys g c t) (firstBlock g c)
+  pub start-written : start t (summed (fileKeys g c t .base) (headerOf g c) ++ r)
+      ≡ begun (fileKeys g c t) (firstBlock g c)
   unfolding start startIn
   start-written =
       ap (λ (x : Reading). startIn t f x) (back .header-is)
