@@ -10,10 +10,12 @@
  * every other number, beside those of the hash, the tag and the blocks behind a header, and on success.
  *
  * A state (of a hash, of the key transformation, of an opening, of an inner stream) is an array that the caller lends. It is
- * bytes to be kept and handed back, and may be copied. Every value of the bytes is answered. An opening whose mark, cipher or
- * numbers no call leaves, zeros too, counts as closed: every step is 19. A key transformation whose mark or counts no call
- * leaves counts as refused: T is 19. An inner stream whose cipher or position no call leaves, zeros too, counts as refused:
- * every stretch is 19. Keys, nonces and halves are taken as they stand, and of a hash every value is a state.
+ * bytes to be kept and handed back, and may be copied. Every value of the bytes is answered. An opening whose mark or cipher no
+ * call leaves, zeros too, counts as closed, and so does one whose numbers do not fit: a place over the file's limit, blocks and
+ * ciphertext that have no room before it, more blocks than bytes of ciphertext, or ciphertext and no block. Every step of it is
+ * 19. A key transformation whose mark or counts no call leaves counts as refused: T is 19. An inner stream whose cipher or
+ * position no call leaves, zeros too, counts as refused: every stretch is 19. Keys, nonces, halves and held bytes are taken as
+ * they stand, and of a hash every value is a state.
  *
  * A slice is a pointer that is not NULL, and a length, 0 too. Outputs, states and inputs of one call do not overlap.
  * No function keeps a pointer, allocates memory or has memory of its own.
