@@ -5,13 +5,15 @@
 --   "of AES ciphertext that is no multiple of 16 bytes it is that of the whole 16-byte pieces"     decryption
 --   "With c ciphertext bytes verified, c at least 1, AES has handed over 16 × floor((c-1)/16);
 --    ChaCha20 .. has handed over c. At c = 0 both have handed over none"                          handed, given
+--   document 00: "for AES the largest multiple of 16 below that, or none if there is none"        LargestBelow
 --   "AES ciphertext length is 0 or no multiple of 16, or padding is wrong" (16)                    payload
 -- The padding is still in the decryption, and is stripped once, from the whole (RFC 5652, 6.3).
 -- Assumes nothing.
+use mathlib.Core.Path.{_≡_}
 use mathlib.Core.Bool.{cond}
 use mathlib.Core.List.{List}
 use mathlib.Core.Option.{Option, none, some}
-use Prim.Native.Nat.{ℕ, _-_, _*_, _/_, _%_}
+use Prim.Native.Nat.{ℕ, _-_, _*_, _/_, _%_, _≤_, _<_}
 use lib.Dec.{eqb}
 use lib.ListN.{length, take}
 use Rattle.refusals.specs.declared.Refusal.{Refusal}
@@ -48,6 +50,12 @@ decryption k t = decryptionBy (k .cipher) k t
 unfoldable pub handed : Cipher → ℕ → ℕ
 handed Aes256 c = 16 * ((c - 1) / 16)
 handed ChaCha20 c = c
+
+-- n is the largest multiple of 16 below c
+pub record LargestBelow (c n : ℕ) : Type 0 where
+  pub multiple : n % 16 ≡ 0
+  pub below : n < c
+  pub largest : (m : ℕ) → m % 16 ≡ 0 → m < c → m ≤ n
 
 -- the bytes that the ciphertext t has handed over
 unfoldable pub given : Keys → List ℕ → List ℕ

@@ -2,6 +2,7 @@
 --
 -- In order:
 --   handed-le                  no more than the ciphertext has
+--   handed-largest             for AES the largest multiple of 16 below it; handed-none, none of none
 --   given-due                  what was handed over and what is due are what is handed over then
 --   length-given, length-due   as many bytes as said
 --   given-nil                  nothing of nothing
@@ -11,7 +12,7 @@
 -- Assumes nothing.
 use mathlib.Core.Path.{_≡_, refl, sym, ap, _∙_}
 use mathlib.Core.List.{List, [], _++_}
-use Prim.Native.Nat.{ℕ, _+_, _-_, _%_, _≤_}
+use Prim.Native.Nat.{ℕ, _+_, _-_, _%_, _≤_, _<_}
 use native.Mathlib.Omega.{arith}
 use borrow.Author.Tests.{eqb-true, eqb-false}
 use lib.Dec.{eqb}
@@ -29,6 +30,7 @@ use Rattle.opening.specs.Decryption.{
   decryptionBy,
   decryption,
   handed,
+  LargestBelow,
   given,
   stripped,
   payloadBy,
@@ -42,6 +44,15 @@ pub handed-le : (z : Cipher) (c : ℕ) → handed z c ≤ c
 unfolding handed
 handed-le Aes256 c = omega arith
 handed-le ChaCha20 c = omega arith
+
+pub handed-largest : (c : ℕ) → 0 < c → LargestBelow c (handed Aes256 c)
+unfolding handed
+handed-largest c h = record { multiple = omega arith; below = omega arith; largest = λ m e l. omega arith }
+
+pub handed-none : (z : Cipher) → handed z 0 ≡ 0
+unfolding handed
+handed-none Aes256 = refl
+handed-none ChaCha20 = refl
 
 handed-whole : (c : ℕ) → handed Aes256 c % 16 ≡ 0
 unfolding handed
