@@ -1,118 +1,165 @@
--- The padding of section 5.1: that it makes whole blocks with as few zeros as can be, and how code lays it behind the
--- pending bytes.
+-- The padding of section 5.1, over the width of a word: it makes whole blocks, with as few zeros as can be.
 --
 -- In order:
---   zeroBytes-fit, zeroBytes-least      the equation of 5.1, for each algorithm
---   marked, laid                        a block or two of zeros, with the pending bytes, the byte 80 and the length written over them
---   padding-256, padding-512            the padding with its length in eight bytes
---   padded                              so laid, it is the standard's
--- Not here: blocks (Blocks), states (Feeding).
+--   lastEnd, lastEnd-most               where the last block ends, counted from the first pending byte
+--   zeroBytes-end                       the zeros and the length reach up to there
+--   zeroBytes-fit, zeroBytes-least      the equation of 5.1: a solution, and the smallest
+--   pad-whole                           a padded message is whole blocks
+--   beBytes-high, padding-is            the padding with its length in eight bytes
+-- Not here: how code lays the padding behind the pending bytes (Last), blocks (Blocks), states (Feeding).
 -- Assumes nothing.
-use mathlib.Core.Path.{_≡_, sym, ap, _∙_}
+use mathlib.Core.Path.{_≡_, refl, sym, ap, _∙_}
 use mathlib.Core.List.{List, _∷_, _++_, append-assoc}
-use Prim.Native.Nat.{ℕ, suc, _+_, _-_, _*_, _/_, _%_, _^_, _≤_, _<_}
-use native.Mathlib.Nat.{mod-lt, mul-comm}
+use Prim.Native.Nat.{ℕ, zero, suc, _+_, _-_, _*_, _/_, _%_, _^_, _≤_, _<_}
+use native.Mathlib.Nat.{
+  mod-lt,
+  mod-add-mod,
+  mod-eq-of-lt,
+  mod-eq-sub-mod,
+  div-eq-of-lt,
+  div-eq-sub-div,
+  mul-comm,
+  pow-le-pow-right,
+  add-mod-right,
+  mul-mod-left,
+}
 use native.Mathlib.Omega.{arith}
-use lib.ListN.{length, take, set, length-append, length-replicate, replicate-append-replicate}
-use lib.Seq.{length-take-le, set-append-seam, take-append-add}
+use lib.Dec.{ltb}
+use lib.ListN.{length, length-append, length-replicate, replicate-append-replicate}
+use borrow.Author.Tests.{ltb-true, ltb-false}
 use Rattle.words.specs.Endian.{beBytes}
+use Rattle.words.proofs.Laws.Cases.{by-bool}
 use Rattle.words.proofs.Laws.Endian.{length-beBytes}
-use Rattle.slices.specs.Over.{over}
-use Rattle.slices.proofs.Laws.Over.{take-over}
-use Rattle.slices.proofs.Laws.Zeros.{zeros, take-zeros, drop-zeros}
-use Rattle.sha2.specs.Fips180.{Sha2, blockBytes, zeroBytes, padding, sha256, sha512}
-use Rattle.sha2.specs.Hashing.{Hashing, pending}
+use Rattle.slices.proofs.Laws.Zeros.{zeros}
+use Rattle.sha2.specs.Fips180.{Sha2, blockBytes, zeroBytes, padding, pad}
 
--- "l + 1 + k ≡ 448 mod 512": the message, the byte 80, the zeros and the length are whole blocks
-pub zeroBytes-fit-256 : (n : ℕ) → (n + 1 + zeroBytes sha256 n) % 64 ≡ 56
-unfolding zeroBytes
-zeroBytes-fit-256 n = omega arith
+-- n bytes of message leave n % blockBytes pending; the byte 80 and two words of length fit behind them in this block,
+-- or else in the next
+abbrev pub lastEnd : Sha2 → ℕ → ℕ
+lastEnd p n = (n % blockBytes p + 2 * p .bytes) / blockBytes p * blockBytes p + blockBytes p
 
--- "l + 1 + k ≡ 896 mod 1024"
-pub zeroBytes-fit-512 : (n : ℕ) → (n + 1 + zeroBytes sha512 n) % 128 ≡ 112
-unfolding zeroBytes
-zeroBytes-fit-512 n = omega arith
+-- the numbers alone: b bytes in a word, r of them pending
+module _ (b r : ℕ) (few : r < 16 * b) where
+  abbrev zerosOf : ℕ
+  zerosOf = (2 * (16 * b) - (2 * b + 1) - r) % (16 * b)
 
--- "the smallest": any other solution is no smaller
-pub zeroBytes-least-256 : (n k : ℕ) → (n + 1 + k) % 64 ≡ 56 → zeroBytes sha256 n ≤ k
-unfolding zeroBytes
-zeroBytes-least-256 n k h = omega arith
+  abbrev endOf : ℕ
+  endOf = (r + 2 * b) / (16 * b) * (16 * b) + 16 * b
 
-pub zeroBytes-least-512 : (n k : ℕ) → (n + 1 + k) % 128 ≡ 112 → zeroBytes sha512 n ≤ k
-unfolding zeroBytes
-zeroBytes-least-512 n k h = omega arith
+  -- either the length fits in this block, or it takes one more
+  by-room : {P : Type 0} → (r < 14 * b → zerosOf ≡ 14 * b - 1 - r → endOf ≡ 16 * b → P)
+      → (14 * b ≤ r → zerosOf ≡ 30 * b - 1 - r → endOf ≡ 32 * b → P)
+      → P
+  by-room one two =
+      let pos : 0 < 16 * b = omega arith in
+      by-bool (ltb r (14 * b))
+      (λ t. let h : r < 14 * b = ltb-true _ _ t in
+      let over : 16 * b ≤ 2 * (16 * b) - (2 * b + 1) - r = omega arith in
+      let under : 2 * (16 * b) - (2 * b + 1) - r - 16 * b < 16 * b = omega arith in
+      let fits : r + 2 * b < 16 * b = omega arith in
+      let z = mod-eq-sub-mod over ∙ mod-eq-of-lt under in
+      let e = div-eq-of-lt fits in
+      one h (z ∙ omega arith) (rw e (omega arith)))
+      (λ t. let h : 14 * b ≤ r = ltb-false _ _ t in
+      let under : 2 * (16 * b) - (2 * b + 1) - r < 16 * b = omega arith in
+      let over : 16 * b ≤ r + 2 * b = omega arith in
+      let fits : r + 2 * b - 16 * b < 16 * b = omega arith in
+      let z = mod-eq-of-lt under in
+      let e = div-eq-sub-div pos over ∙ ap (λ (n : ℕ). n + 1) (div-eq-of-lt fits) in
+      two h (z ∙ omega arith) (rw e (omega arith)))
 
--- w and the byte 80, over n zeros
-marked : (w : List ℕ) (n k : ℕ) → n ≡ length w + suc k → set (over w (zeros n)) (length w) 0x80 ≡ w ++ (0x80 ∷ zeros k)
-unfolding over
-marked w n k e =
-    let h : length w ≤ n = omega arith in
-    let z : n - length w ≡ suc k = omega arith in
-    rw (drop-zeros (length w) n h, z) (set-append-seam w 0 (zeros k) 0x80)
+  zeros-end : r + 1 + zerosOf + 2 * b ≡ endOf
+  zeros-end = by-room (λ h z e. omega arith) (λ h z e. omega arith)
 
--- w, the byte 80, zeros and len, up to e bytes in all
-laid : (w len d : List ℕ) (at e n : ℕ) → length w < at → at + length len ≡ e → at ≤ n
-    → d ≡ set (over w (zeros n)) (length w) 0x80
-    → take e (over (take at d ++ len) d) ≡ w ++ (0x80 ∷ (zeros (at - length w - 1) ++ len))
-laid w len d at e n h f l g =
-    let k : ℕ = n - length w - 1 in
-    let j : ℕ = at - length w - 1 in
-    let z : n ≡ length w + suc k = omega arith in
-    let a : at ≡ length w + suc j = omega arith in
-    let i : j ≤ k = omega arith in
-    let m : d ≡ w ++ (0x80 ∷ zeros k) = g ∙ marked w n k z in
-    let s : take at d ≡ w ++ (0x80 ∷ zeros j) = ap (take at) m ∙ ap (λ (x : ℕ). take x (w ++ (0x80 ∷ zeros k))) a
-    ∙ take-append-add w (0x80 ∷ zeros k) (suc j) ∙ ap (λ (t : List ℕ). w ++ (0x80 ∷ t)) (take-zeros j k i) in
-    let y : length (take at d ++ len) ≡ e = rw s (simp (length-append, length-replicate) (omega arith)) in
-    take-over (take at d ++ len) d e y ∙ ap (λ (t : List ℕ). t ++ len) s ∙ append-assoc w (0x80 ∷ zeros j) len
+  end-most : endOf ≤ 2 * (16 * b)
+  end-most = by-room (λ h z e. omega arith) (λ h z e. omega arith)
 
-pub padding-256 : (n : ℕ)
-    → padding sha256 n ≡ 0x80 ∷ (zeros ((n % 64 + 8) / 64 * 64 + 64 - 8 - n % 64 - 1) ++ beBytes 8 (n * 8))
-unfolding padding zeroBytes
-padding-256 n =
-    let e : (128 - 9 - n % 64) % 64 ≡ (n % 64 + 8) / 64 * 64 + 64 - 8 - n % 64 - 1 = omega arith in
-    rw (e, mul-comm 8 n)
+  zeros-fit : (r + 1 + zerosOf) % (16 * b) ≡ 14 * b
+  zeros-fit =
+      by-room
+      (λ h z e. let f : r + 1 + zerosOf ≡ 14 * b = omega arith in
+      let under : 14 * b < 16 * b = omega arith in
+      rw f (mod-eq-of-lt under))
+      (λ h z e. let f : r + 1 + zerosOf ≡ 30 * b = omega arith in
+      let over : 16 * b ≤ 30 * b = omega arith in
+      let g : 30 * b - 16 * b ≡ 14 * b = omega arith in
+      let under : 14 * b < 16 * b = omega arith in
+      rw (f, mod-eq-sub-mod over, g) (mod-eq-of-lt under))
 
-beBytes-high : (x : ℕ) → x < 2 ^ 64 → beBytes 16 x ≡ zeros 8 ++ beBytes 8 x
+  -- any other solution is no smaller
+  zeros-least : (k : ℕ) → (r + 1 + k) % (16 * b) ≡ 14 * b → zerosOf ≤ k
+  zeros-least k f =
+      by-bool (ltb k zerosOf)
+      (λ t. let l : k < zerosOf = ltb-true _ _ t in
+      by-room
+      (λ h z e. let under : r + 1 + k < 16 * b = omega arith in
+      let g = mod-eq-of-lt under in
+      omega arith)
+      (λ h z e. by-bool (ltb (r + 1 + k) (16 * b))
+      (λ u. let under : r + 1 + k < 16 * b = ltb-true _ _ u in
+      let g = mod-eq-of-lt under in
+      omega arith)
+      (λ u. let over : 16 * b ≤ r + 1 + k = ltb-false _ _ u in
+      let under : r + 1 + k - 16 * b < 16 * b = omega arith in
+      let g = mod-eq-sub-mod over ∙ mod-eq-of-lt under in
+      omega arith)))
+      (λ t. ltb-false _ _ t)
+
+module _ (p : Sha2) (pos : 0 < blockBytes p) where
+  pub lastEnd-most : (n : ℕ) → lastEnd p n ≤ 2 * blockBytes p
+  lastEnd-most n = end-most (p .bytes) (n % blockBytes p) (mod-lt n pos)
+
+  pub zeroBytes-end : (n : ℕ) → n % blockBytes p + 1 + zeroBytes p n + 2 * p .bytes ≡ lastEnd p n
+  unfolding zeroBytes
+  zeroBytes-end n = zeros-end (p .bytes) (n % blockBytes p) (mod-lt n pos)
+
+  -- k more bytes behind n, and behind those of them that are pending
+  mod-behind : (n k : ℕ) → (n + 1 + k) % blockBytes p ≡ (n % blockBytes p + 1 + k) % blockBytes p
+  mod-behind n k =
+      let e : n + 1 + k ≡ n + (1 + k) = omega arith in
+      let f : n % blockBytes p + 1 + k ≡ n % blockBytes p + (1 + k) = omega arith in
+      rw (e, f) (sym (mod-add-mod n (blockBytes p) (1 + k)))
+
+  -- "l + 1 + k ≡ 448 mod 512" (896 mod 1024): with the length in two words they are whole blocks
+  pub zeroBytes-fit : (n : ℕ) → (n + 1 + zeroBytes p n) % blockBytes p ≡ 14 * p .bytes
+  unfolding zeroBytes
+  zeroBytes-fit n = mod-behind n _ ∙ zeros-fit (p .bytes) (n % blockBytes p) (mod-lt n pos)
+
+  -- "the smallest": any other solution is no smaller
+  pub zeroBytes-least : (n k : ℕ) → (n + 1 + k) % blockBytes p ≡ 14 * p .bytes → zeroBytes p n ≤ k
+  unfolding zeroBytes
+  zeroBytes-least n k f = zeros-least (p .bytes) (n % blockBytes p) (mod-lt n pos) k (sym (mod-behind n k) ∙ f)
+
+  pub pad-whole : (m : List ℕ) → length (pad p m) % blockBytes p ≡ 0
+  unfolding pad padding
+  pad-whole m =
+      let z : ℕ = zeroBytes p (length m) in
+      let e : length (pad p m) ≡ length m + 1 + (z + 2 * p .bytes) =
+      simp (length-append, length-replicate, length-beBytes) (omega arith) in
+      let f : length m % blockBytes p + 1 + (z + 2 * p .bytes) ≡ lastEnd p (length m) =
+      omega (arith, zeroBytes-end (length m)) in
+      rw (e, mod-behind (length m) (z + 2 * p .bytes), f, add-mod-right) (mul-mod-left _ _)
+
+-- the bytes above the eighth of a number of eight bytes are zeros
+beBytes-high : (k x : ℕ) → x < 256 ^ 8 → beBytes (k + 8) x ≡ zeros k ++ beBytes 8 x
 unfolding beBytes
-beBytes-high x h =
-    let e15 : x / 256 ^ 15 % 256 ≡ 0 = omega arith in
-    let e14 : x / 256 ^ 14 % 256 ≡ 0 = omega arith in
-    let e13 : x / 256 ^ 13 % 256 ≡ 0 = omega arith in
-    let e12 : x / 256 ^ 12 % 256 ≡ 0 = omega arith in
-    let e11 : x / 256 ^ 11 % 256 ≡ 0 = omega arith in
-    let e10 : x / 256 ^ 10 % 256 ≡ 0 = omega arith in
-    let e9 : x / 256 ^ 9 % 256 ≡ 0 = omega arith in
-    let e8 : x / 256 ^ 8 % 256 ≡ 0 = omega arith in
-    rw (e15, e14, e13, e12, e11, e10, e9, e8)
+beBytes-high zero x h = refl
+beBytes-high (suc k) x h =
+    let d : suc k + 8 ≡ suc (k + 8) = omega arith in
+    let j : 8 ≤ k + 8 = omega arith in
+    let l : 256 ^ 8 ≤ 256 ^ (k + 8) = pow-le-pow-right {n = 256} (omega arith) j in
+    let e : x / 256 ^ (k + 8) ≡ 0 = div-eq-of-lt (omega arith) in
+    rw (d, e, beBytes-high k x h)
 
--- the length's upper eight bytes are zeros too
-pub padding-512 : (n : ℕ) → n < 2 ^ 32
-    → padding sha512 n ≡ 0x80 ∷ (zeros ((n % 128 + 16) / 128 * 128 + 128 - 8 - n % 128 - 1) ++ beBytes 8 (n * 8))
-unfolding padding zeroBytes
-padding-512 n l =
-    let k : 8 * n < 2 ^ 64 = omega arith in
-    let e : (256 - 17 - n % 128) % 128 + 8 ≡ (n % 128 + 16) / 128 * 128 + 128 - 8 - n % 128 - 1 = omega arith in
-    rw (beBytes-high (8 * n) k, ← append-assoc, replicate-append-replicate, e, mul-comm 8 n)
-
-module _ (p : Sha2) (pos : 0 < blockBytes p) (h : Hashing) (long : length (h .buffer) ≡ blockBytes p) where
-  -- the last blocks, as code lays them over n zeros: w holds the pending bytes and the byte 80, d the length too
-  pub padded : {w d bits : List ℕ} (e n : ℕ) → bits ≡ beBytes 8 (h .total * 8)
-      → w ≡ set (over (take (h .total % blockBytes p) (h .buffer)) (zeros n)) (h .total % blockBytes p) 0x80
-      → d ≡ over (take (e - 8) w ++ bits) w
-      → h .total % blockBytes p + 8 < e → e ≤ n
-      → padding p (h .total) ≡ 0x80 ∷ (zeros (e - 8 - h .total % blockBytes p - 1) ++ beBytes 8 (h .total * 8))
-      → take e d ≡ pending p h ++ padding p (h .total)
-  unfolding pending
-  padded {w} {d} {bits} e n e₁ e₂ e₃ l₁ l₂ e₄ =
-      let k = mod-lt (h .total) pos in
-      let i : h .total % blockBytes p ≤ length (h .buffer) = omega arith in
-      let front : List ℕ = take (h .total % blockBytes p) (h .buffer) in
-      let u : length front ≡ h .total % blockBytes p = length-take-le (h .total % blockBytes p) (h .buffer) i in
-      let v : length bits ≡ 8 = ap length e₁ ∙ length-beBytes 8 (h .total * 8) in
-      let g : w ≡ set (over front (zeros n)) (length front) 0x80 = e₂
-      ∙ ap (λ (x : ℕ). set (over front (zeros n)) x 0x80) (sym u) in
-      let q : length front < e - 8 = omega arith in
-      let r : e - 8 + length bits ≡ e = omega arith in
-      let s : e - 8 ≤ n = omega arith in
-      cc (e₁, e₃, e₄, u, laid front bits w (e - 8) e n q r s g)
+-- the padding of a message of n bytes, its length in eight bytes: zeros up to there, whichever of them are the length's
+pub padding-is : (p : Sha2) → 4 ≤ p .bytes → (n : ℕ) → n < 2 ^ 32
+    → padding p n ≡ 0x80 ∷ (zeros (lastEnd p n - 8 - n % blockBytes p - 1) ++ beBytes 8 (n * 8))
+unfolding padding
+padding-is p wide n l =
+    let k : ℕ = 2 * p .bytes - 8 in
+    let w : 2 * p .bytes ≡ k + 8 = omega arith in
+    let x : 8 * n < 256 ^ 8 = omega arith in
+    let z : zeroBytes p n + k ≡ lastEnd p n - 8 - n % blockBytes p - 1 =
+    omega (arith, zeroBytes-end p (omega arith) n) in
+    let b = ap (λ (i : ℕ). beBytes i (8 * n)) w ∙ beBytes-high k (8 * n) x in
+    rw (b, ← append-assoc, replicate-append-replicate, z, mul-comm 8 n)

@@ -1,18 +1,10 @@
 -- `sha512::Sha512::finish` meets its contract. Assumes nothing.
-use mathlib.Core.Path.{_≡_, refl, sym, ap, _∙_}
-use mathlib.Core.List.{List, _++_}
-use Prim.Native.Nat.{ℕ, _+_, _-_, _*_, _/_, _%_, _≤_}
+use mathlib.Core.Path.{_≡_, refl, sym}
 use native.Mathlib.Omega.{arith}
-use lib.ListN.{length, take, set, length-set, length-append}
-use lib.Seq.{length-take-le}
-use borrow.Rule.Slice.PartMut.{putMid}
-use Rattle.slices.specs.Over.{over}
-use Rattle.slices.proofs.Laws.Zeros.{zeros}
-use Rattle.slices.proofs.Laws.Over.{over-fits, over-behind-fits, length-over}
-use Rattle.sha2.specs.Fips180.{sha512, hashBlocks, parse, digest}
+use lib.ListN.{length}
+use Rattle.sha2.specs.Fips180.{sha512}
 use Rattle.sha2.specs.Fips180.Constants.{K512}
-use Rattle.sha2.specs.Hashing.{finish}
-use Rattle.sha2.proofs.Laws.Padding.{padding-512, padded}
+use Rattle.sha2.proofs.Laws.Last as last
 use Rattle.sha512.specs.State.{held}
 use borrow.Author.Needs.{needs}
 use Rattle.sha512.proofs.Sha512.finish.Statement.{statement}
@@ -21,99 +13,50 @@ use Rattle.sha512.proofs.Sha512.finish.Tie as tie
 long : (c : tie.Start) → length (c .args .self .buffer) ≡ 128
 long c = search needs
 
-length-pending : (c : tie.Start) → length (take (c .args .self .total % 128) (c .args .self .buffer))
-    ≡ c .args .self .total % 128
-length-pending c = length-take-le (c .args .self .total % 128) (c .args .self .buffer) (omega (arith, long c))
-
--- the pending bytes and the byte 80, over zeros
-marked : (c : tie.After-copy)
-    → let h = c .before .before .before .before .before .before .before .args .self in
-    set (c .copy .last .0) (h .total % 128) 0x80
-    ≡ set (over (take (h .total % 128) (h .buffer)) (zeros 256)) (h .total % 128) 0x80
-marked c =
-    let st = c .before .before .before .before .before .before .before in
-    let used = st .args .self .total % 128 in
-    let front = take used (st .args .self .buffer) in
-    let n = length-pending st in
-    ap (λ (d : List ℕ). set d used 0x80) (c .copy .ensures ∙ over-fits front (zeros 256) (omega arith))
-
-length-marked : (c : tie.After-copy)
-    → let h = c .before .before .before .before .before .before .before .args .self in
-    length (set (c .copy .last .0) (h .total % 128) 0x80) ≡ 256
-length-marked c = simp length-set (c .copy .kept .0)
-
--- the length in bits, behind them
-laid : (c : tie.After-copy2)
-    → let at-copy = c .before .before .before .before in
-    let h = at-copy .before .before .before .before .before .before .before .args .self in
-    let at = (h .total % 128 + 16) / 128 * 128 + 128 - 8 in
-    let w = set (at-copy .copy .last .0) (h .total % 128) 0x80 in
-    let bits = at-copy .before .before .before .bytes64 .result in
-    putMid at (256 - at) w (c .copy2 .last .0) ≡ over (take at w ++ bits) w
-laid c =
-    let at-copy = c .before .before .before .before in
-    let used = at-copy .before .before .before .before .before .before .before .args .self .total % 128 in
-    let at = (used + 16) / 128 * 128 + 128 - 8 in
-    let bits = at-copy .before .before .before .bytes64 .result in
-    let n = length-marked at-copy in
-    let eight : length bits ≡ 8 = search needs in
-    over-behind-fits bits (set (at-copy .copy .last .0) used 0x80) (c .copy2 .last .0) at (256 - at) (omega arith)
-    (omega arith) (c .copy2 .ensures)
-
-length-laid : (c : tie.After-copy2)
-    → let at-copy = c .before .before .before .before in
-    let h = at-copy .before .before .before .before .before .before .before .args .self in
-    let at = (h .total % 128 + 16) / 128 * 128 + 128 - 8 in
-    length (putMid at (256 - at) (set (at-copy .copy .last .0) (h .total % 128) 0x80) (c .copy2 .last .0)) ≡ 256
-length-laid c =
-    let at-copy = c .before .before .before .before in
-    let used = at-copy .before .before .before .before .before .before .before .args .self .total % 128 in
-    let at = (used + 16) / 128 * 128 + 128 - 8 in
-    let w = set (at-copy .copy .last .0) used 0x80 in
-    let bits = at-copy .before .before .before .bytes64 .result in
-    let n = length-marked at-copy in
-    let eight : length bits ≡ 8 = search needs in
-    let front = length-take-le at w (omega arith) in
-    let fits : length (take at w ++ bits) ≤ length w = simp length-append (omega arith) in
-    ap length (laid c) ∙ length-over (take at w ++ bits) w fits ∙ n
-
 array-share-prefix-buffer : tie.Need-array-share-prefix-buffer
 array-share-prefix-buffer c = omega (arith, long (c .before .before .before .before .before))
 
 slice-aggregate-copy-2 : tie.Need-slice-aggregate-copy-2
-slice-aggregate-copy-2 c = sym (length-pending (c .before .before .before .before .before .before))
+slice-aggregate-copy-2 c =
+    let st = c .before .before .before .before .before .before in
+    sym (last.length-front sha512 (omega arith) (held (st .args .self)) (long st))
 
 part-last-end : tie.Need-part-last-end
-part-last-end c = omega (arith, length-marked (c .before))
+part-last-end c =
+    let at-copy = c .before in
+    let st = at-copy .before .before .before .before .before .before .before in
+    omega (arith, last.length-marked sha512 (omega arith) (held (st .args .self)) (long st) (at-copy .copy .ensures))
 
 array-share-prefix-last : tie.Need-array-share-prefix-last
-array-share-prefix-last c = omega (arith, length-laid (c .before))
+array-share-prefix-last c =
+    let at-copy = c .before .before .before .before .before in
+    let st = at-copy .before .before .before .before .before .before .before in
+    omega (
+      arith,
+      last.length-laid sha512 (omega arith) (held (st .args .self)) (long st) (at-copy .copy .ensures)
+          (at-copy .before .before .before .bytes64 .ensures) (c .before .copy2 .ensures),
+    )
 
 slice-aggregate-blocks : tie.Need-slice-aggregate-blocks
 slice-aggregate-blocks c =
-    let at-copy = c .before .before in
-    let e : (at-copy .before .before .before .before .before .before .before .before .before .before .before .args .self .total % 128 + 16) / 128 * 128 + 128 ≤ 256 = omega arith in
-    sym (length-take-le _ _ (omega (arith, length-laid at-copy, e)))
+    let at-copy = c .before .before .before .before .before .before in
+    let st = at-copy .before .before .before .before .before .before .before in
+    last.length-last sha512 (omega arith) (held (st .args .self)) (long st) (at-copy .copy .ensures)
+    (at-copy .before .before .before .bytes64 .ensures) (c .before .before .copy2 .ensures)
 
 blocks-requires : tie.Need-blocks-requires
 unfolding K512
 blocks-requires c κs = refl
 
 returns : tie.Need-returns
-unfolding finish
 returns c =
     let at-blocks = c .before in
     let at-copy-2 = at-blocks .before .before .before .before in
     let at-copy = at-copy-2 .before .before .before .before in
     let st = at-copy .before .before .before .before .before .before .before in
-    let t = st .args .self .total in
-    c .digest .ensures
-    ∙ ap (digest sha512)
-    (at-blocks .blocks2 .ensures
-    ∙ ap (λ (l : List ℕ). hashBlocks sha512 (st .args .self .chain) (parse sha512 l))
-    (padded sha512 (search needs) (held (st .args .self)) (long st) ((t % 128 + 16) / 128 * 128 + 128) 256
-    (at-copy .before .before .before .bytes64 .ensures) (marked at-copy) (laid at-copy-2) (omega arith)
-    (omega arith) (padding-512 t (omega arith))))
+    last.finish-is sha512 (omega arith) (held (st .args .self)) (long st) (at-copy .copy .ensures)
+    (at-copy .before .before .before .bytes64 .ensures) (at-copy-2 .copy2 .ensures) (omega arith)
+    (at-blocks .blocks2 .ensures) (c .digest .ensures)
 
 pub finish-spec : {M : Type 1} → statement M
 finish-spec =
