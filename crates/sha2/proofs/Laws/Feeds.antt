@@ -5,6 +5,7 @@
 --   feed-taken, feed-refused       a feed within the limit, and past it
 --   feeds-holds, feeds-hash        the theorem
 --   accepted-all, feeds-hash-all   within the limit nothing is refused
+--   two-hash, three-hash           two feeds, and three
 --   start-taken, hash-is           one feed of a whole message
 --   hashed-digest                  the one-call form's digest, within the limit
 --   accepted-shift                 a limit that leaves out what was fed before
@@ -63,6 +64,23 @@ accepted-all limit n (s ∷ ss) l =
 pub feeds-hash-all : (p : Sha2) → 0 < blockBytes p → (limit : ℕ) (ss : List (List ℕ)) → length (joined ss) ≤ limit
     → finish p (feeds p limit (start p) ss) ≡ hash p (joined ss)
 feeds-hash-all p pos limit ss l = feeds-hash p pos limit ss ∙ ap (hash p) (accepted-all limit 0 ss (omega arith))
+
+-- two parts, and three, as callers feed them
+module _ (p : Sha2) (pos : 0 < blockBytes p) (limit : ℕ) where
+  pub two-hash : (a b : List ℕ) → length a + length b ≤ limit
+      → finish p (feedTo p limit (feedTo p limit (start p) a .next) b .next) ≡ hash p (a ++ b)
+  unfolding feeds joined
+  two-hash a b l =
+      let j : length (joined (a ∷ b ∷ [])) ≤ limit = simp (append-nil, length-append) l in
+      feeds-hash-all p pos limit (a ∷ b ∷ []) j ∙ ap (λ (t : List ℕ). hash p (a ++ t)) (append-nil b)
+
+  pub three-hash : (a b c : List ℕ) → length a + (length b + length c) ≤ limit
+      → finish p (feedTo p limit (feedTo p limit (feedTo p limit (start p) a .next) b .next) c .next)
+      ≡ hash p (a ++ (b ++ c))
+  unfolding feeds joined
+  three-hash a b c l =
+      let j : length (joined (a ∷ b ∷ c ∷ [])) ≤ limit = simp (append-nil, length-append) l in
+      feeds-hash-all p pos limit (a ∷ b ∷ c ∷ []) j ∙ ap (λ (t : List ℕ). hash p (a ++ (b ++ t))) (append-nil c)
 
 -- a fresh state takes what is within the limit
 pub start-taken : (p : Sha2) (limit : ℕ) (m : List ℕ) → length m ≤ limit → feedTo p limit (start p) m .next
