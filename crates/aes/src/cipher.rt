@@ -2,9 +2,9 @@
 ghost use mathlib.Core.Path.{_≡_};
 ghost use Prim.Native.Nat.{_<_};
 ghost use Rattle.fips197.specs.Fips197 as fips197;
-ghost use Rattle.aes_tables.specs.Tables as tables;
 ghost use Rattle.aes.specs.Columns.{columns};
 ghost use Rattle.aes.specs.Repeated.{repeated};
+ghost use Rattle.aes.specs.Tabled as tabled;
 use crate::block::Columns;
 use aes_tables::column;
 use aes_tables::sub_column;
@@ -25,7 +25,7 @@ pub(crate) fn add_round_key(w: &[u32; 60], i: usize, s: Columns) -> Columns
 // Round i.
 fn round(te: &[u32; 256], w: &[u32; 60], i: usize, s: Columns) -> Columns
     requires { ⌜ i < 15 ⌝ }
-    ensures { λ r. ⌜ (now (te .entry) ≡ tables.te → columns r ≡ fips197.round (columns s) (now (w .entry)) i) ⌝ }
+    ensures { λ r. ⌜ columns r ≡ tabled.roundBy (now (te .entry)) (columns s) (now (w .entry)) i ⌝ }
 {
     let k = w[4 * i];
     let l = w[4 * i + 1];
@@ -41,7 +41,7 @@ fn round(te: &[u32; 256], w: &[u32; 60], i: usize, s: Columns) -> Columns
 
 // The last round.
 fn final_round(te: &[u32; 256], w: &[u32; 60], s: Columns) -> Columns
-    ensures { λ r. ⌜ (now (te .entry) ≡ tables.te → columns r ≡ fips197.finalRound (columns s) (now (w .entry))) ⌝ }
+    ensures { λ r. ⌜ columns r ≡ tabled.finalRoundBy (now (te .entry)) (columns s) (now (w .entry)) ⌝ }
 {
     let x = Columns {
         a: sub_column(te, s.a, s.b, s.c, s.d),
@@ -52,9 +52,9 @@ fn final_round(te: &[u32; 256], w: &[u32; 60], s: Columns) -> Columns
     add_round_key(w, 14, x)
 }
 
-// Cipher(), where the table is that of the cipher.
+// Cipher() by the table lent: FIPS 197's, where that is te.
 pub fn encrypt(te: &[u32; 256], w: &[u32; 60], s: Columns) -> Columns
-    ensures { λ r. ⌜ (now (te .entry) ≡ tables.te → columns r ≡ fips197.cipher (columns s) (now (w .entry))) ⌝ }
+    ensures { λ r. ⌜ columns r ≡ tabled.cipherBy (now (te .entry)) (columns s) (now (w .entry)) ⌝ }
 {
     let mut x = add_round_key(w, 0, s);
     let mut i: usize = 0;
@@ -65,9 +65,9 @@ pub fn encrypt(te: &[u32; 256], w: &[u32; 60], s: Columns) -> Columns
     final_round(te, w, x)
 }
 
-// Cipher() n times, where the table is that of the cipher.
-pub fn encrypt_repeated(te: &[u32; 256], w: &[u32; 60], s: Columns, n: u32) -> Columns
-    ensures { λ r. ⌜ (now (te .entry) ≡ tables.te → columns r ≡ repeated (λ s. fips197.cipher s (now (w .entry))) n (columns s)) ⌝ }
+// The same n times.
+pub(crate) fn encrypt_repeated(te: &[u32; 256], w: &[u32; 60], s: Columns, n: u32) -> Columns
+    ensures { λ r. ⌜ columns r ≡ repeated (λ s. tabled.cipherBy (now (te .entry)) s (now (w .entry))) n (columns s) ⌝ }
 {
     let mut x = s;
     let mut i: u32 = 0;

@@ -1,9 +1,8 @@
 // EqInvCipher() of FIPS 197 (5.3.5), a round at a time, on the columns of a block and the dual key schedule.
 ghost use mathlib.Core.Path.{_≡_};
 ghost use Prim.Native.Nat.{_<_};
-ghost use Rattle.fips197.specs.Fips197 as fips197;
-ghost use Rattle.aes_tables.specs.Tables as tables;
 ghost use Rattle.aes.specs.Columns.{columns};
+ghost use Rattle.aes.specs.Tabled as tabled;
 use crate::block::Columns;
 use crate::cipher::add_round_key;
 use aes_tables::column;
@@ -12,7 +11,7 @@ use aes_tables::inv_sub_column;
 // Round i.
 fn inv_round(td: &[u32; 256], v: &[u32; 60], i: usize, s: Columns) -> Columns
     requires { ⌜ i < 15 ⌝ }
-    ensures { λ r. ⌜ (now (td .entry) ≡ tables.td → columns r ≡ fips197.eqInvRound (columns s) (now (v .entry)) i) ⌝ }
+    ensures { λ r. ⌜ columns r ≡ tabled.eqInvRoundBy (now (td .entry)) (columns s) (now (v .entry)) i ⌝ }
 {
     let k = v[4 * i];
     let l = v[4 * i + 1];
@@ -28,7 +27,7 @@ fn inv_round(td: &[u32; 256], v: &[u32; 60], i: usize, s: Columns) -> Columns
 
 // The last round.
 fn inv_final_round(inverse: &[u8; 256], v: &[u32; 60], s: Columns) -> Columns
-    ensures { λ r. ⌜ (now (inverse .entry) ≡ tables.inverse → columns r ≡ fips197.eqInvFinalRound (columns s) (now (v .entry))) ⌝ }
+    ensures { λ r. ⌜ columns r ≡ tabled.eqInvFinalRoundBy (now (inverse .entry)) (columns s) (now (v .entry)) ⌝ }
 {
     let x = Columns {
         a: inv_sub_column(inverse, s.a, s.d, s.c, s.b),
@@ -39,10 +38,10 @@ fn inv_final_round(inverse: &[u8; 256], v: &[u32; 60], s: Columns) -> Columns
     add_round_key(v, 0, x)
 }
 
-// EqInvCipher(), where the tables are those of the inverse cipher: InvCipher() on the key schedule that v is the dual
-// of.
+// EqInvCipher() by the tables lent: FIPS 197's, where those are inverse and td, and then InvCipher() on the key schedule
+// that v is the dual of.
 pub fn decrypt(inverse: &[u8; 256], td: &[u32; 256], v: &[u32; 60], s: Columns) -> Columns
-    ensures { λ r. ⌜ (now (inverse .entry) ≡ tables.inverse → now (td .entry) ≡ tables.td → columns r ≡ fips197.eqInvCipher (columns s) (now (v .entry))) ⌝ }
+    ensures { λ r. ⌜ columns r ≡ tabled.eqInvCipherBy (now (inverse .entry)) (now (td .entry)) (columns s) (now (v .entry)) ⌝ }
 {
     let mut x = add_round_key(v, 14, s);
     let mut i: usize = 13;

@@ -4,7 +4,8 @@
 // key is 32 bytes, a block 16, by their types. Round keys are a value; any 60 words are some key schedule, and the
 // promises hold of them. The operations of this file build the tables that they need (crate aes_tables) at each call:
 // some 2,000 instructions, and 8,000 for decryption. Those of the modules below take lent tables, for callers with many
-// blocks; what they promise holds where the tables are the right ones. Table look-ups are not constant-time.
+// blocks, and promise what they make of any tables (specs/Tabled); by the right ones that is FIPS 197's (proofs,
+// Laws.Tabled). Table look-ups are not constant-time.
 ghost use mathlib.Core.Path.{_≡_};
 ghost use Rattle.fips197.specs.Fips197 as fips197;
 ghost use Rattle.aes.specs.Repeated.{repeated};

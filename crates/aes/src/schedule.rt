@@ -4,12 +4,13 @@ ghost use Prim.Native.Nat.{_*_, _<_};
 ghost use lib.ListN.{take};
 ghost use Rattle.fips197.specs.Fips197 as fips197;
 ghost use Rattle.aes_tables.specs.Tables as tables;
+ghost use Rattle.aes.specs.Tabled as tabled;
 use aes_tables::column;
 use aes_tables::sub_column;
 
-// SubWord().
+// SubWord() by the table lent.
 fn sub_word(te: &[u32; 256], w: u32) -> u32
-    ensures { λ r. ⌜ (now (te .entry) ≡ tables.te → r ≡ fips197.subWord w) ⌝ }
+    ensures { λ r. ⌜ r ≡ tables.subColumn (now (te .entry)) w w w w ⌝ }
 {
     sub_column(te, w, w, w, w)
 }
@@ -59,8 +60,8 @@ fn key_words(key: [u8; 32]) -> [u32; 60]
     w
 }
 
-// KeyExpansion(), where the table is that of the cipher.
-pub fn expand(te: &[u32; 256], key: [u8; 32]) -> [u32; 60]
+// KeyExpansion(), where the table lent is te.
+pub(crate) fn expand(te: &[u32; 256], key: [u8; 32]) -> [u32; 60]
     ensures { λ r. ⌜ (now (te .entry) ≡ tables.te → r ≡ fips197.keyExpansion key) ⌝ }
 {
     let mut w = key_words(key);
@@ -72,9 +73,9 @@ pub fn expand(te: &[u32; 256], key: [u8; 32]) -> [u32; 60]
     w
 }
 
-// A word as a column through InvMixColumns(): td at the values of the S-box.
+// A word as a column by td, at its bytes by te: InvMixColumns() of it, where those are the tables.
 fn inv_mix_word(te: &[u32; 256], td: &[u32; 256], w: u32) -> u32
-    ensures { λ r. ⌜ (now (te .entry) ≡ tables.te → now (td .entry) ≡ tables.td → r ≡ fips197.invMixWord w) ⌝ }
+    ensures { λ r. ⌜ r ≡ tables.columnWord (now (td .entry)) (tables.subColumn (now (te .entry)) w w w w) ⌝ }
 {
     let z = sub_word(te, w);
     column(td, z, z, z, z, 0)
@@ -82,7 +83,7 @@ fn inv_mix_word(te: &[u32; 256], td: &[u32; 256], w: u32) -> u32
 
 // Word i of the dual key schedule.
 fn dual_word(te: &[u32; 256], td: &[u32; 256], i: usize, w: u32) -> u32
-    ensures { λ r. ⌜ (now (te .entry) ≡ tables.te → now (td .entry) ≡ tables.td → r ≡ fips197.dualWord i w) ⌝ }
+    ensures { λ r. ⌜ r ≡ tabled.dualWordBy (now (te .entry)) (now (td .entry)) i w ⌝ }
 {
     if i < 4 {
         return w;
@@ -93,9 +94,9 @@ fn dual_word(te: &[u32; 256], td: &[u32; 256], i: usize, w: u32) -> u32
     w
 }
 
-// The dual key schedule, where the tables are those of the cipher and of its inverse.
+// The dual key schedule by the tables lent: FIPS 197's, where those are te and td.
 pub fn dual(te: &[u32; 256], td: &[u32; 256], w: [u32; 60]) -> [u32; 60]
-    ensures { λ r. ⌜ (now (te .entry) ≡ tables.te → now (td .entry) ≡ tables.td → r ≡ fips197.dual w) ⌝ }
+    ensures { λ r. ⌜ r ≡ tabled.dualBy (now (te .entry)) (now (td .entry)) w ⌝ }
 {
     let mut v = [0u32; 60];
     let mut i: usize = 0;

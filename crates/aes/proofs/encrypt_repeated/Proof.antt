@@ -2,6 +2,7 @@
 use mathlib.Core.Path.{ap, _∙_}
 use Rattle.fips197.specs.Fips197.{cipher}
 use Rattle.aes.specs.Repeated.{repeated}
+use Rattle.aes.proofs.Laws.Tabled.{columns-block, repeatedBy-te}
 use borrow.Author.Needs.{needs}
 use Rattle.aes.proofs.encrypt_repeated.Statement.{statement}
 use Rattle.aes.proofs.encrypt_repeated.Tie as tie
@@ -11,7 +12,9 @@ returns c =
     let loaded = c .before .before in
     let built = loaded .before .before .before .before in
     let a = built .before .args in
-    c .store .ensures ∙ c .before .encrypt-repeated .ensures (built .te .ensures)
+    let x = loaded .load .result in
+    c .store .ensures ∙ c .before .encrypt-repeated .ensures
+    ∙ repeatedBy-te (built .te .ensures) (a .keys .words) (a .n) _ (columns-block (x .a) (x .b) (x .c) (x .d))
     ∙ ap (repeated (λ s. cipher s (a .keys .words)) (a .n)) (loaded .load .ensures)
 
 pub encrypt-repeated-spec : {M : Type 1} → statement M

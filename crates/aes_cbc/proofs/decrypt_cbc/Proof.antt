@@ -7,6 +7,7 @@ use Rattle.slices.specs.Over.{over}
 use Rattle.fips197.specs.Fips197.{invCipher}
 use Rattle.fips197.proofs.Laws.Equivalent.{eqInvCipher-dual}
 use Rattle.aes_tables.proofs.Laws.Entries.{mixed-inverse}
+use Rattle.aes.proofs.Laws.Tabled.{dualBy-td}
 use Rattle.cbc.specs.Sp80038a.{previous}
 use Rattle.cbc.proofs.Laws.Mode.{decrypt-same}
 use Rattle.aes_cbc.specs.Aes256Cbc.{eqDecrypt}
@@ -30,7 +31,7 @@ returns c =
     let w = a .keys .words in
     let run = c .before .before .before .decrypt-run .ensures in
     let td = built .td .ensures ∙ mixed-inverse (built .before .before .inverse .ensures) in
-    let dual = dualed .dual .ensures (built .before .before .before .te .ensures) td in (
+    let dual = dualed .dual .ensures ∙ dualBy-td (built .before .before .before .te .ensures) td w in (
       c .store .ensures ∙ run .0 ∙ ap (λ (p : List ℕ). previous p d) (loaded .load .ensures),
       run .1 ∙ ap₂ (λ (v p : List ℕ). over (eqDecrypt v p d) d) dual (loaded .load .ensures)
           ∙ ap (λ (t : List ℕ). over t d) (decrypt-same _ (λ s. invCipher s w) (λ s. eqInvCipher-dual s w) _ d),

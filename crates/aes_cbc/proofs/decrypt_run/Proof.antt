@@ -9,6 +9,7 @@ use lib.ListN.{length, take}
 use Rattle.slices.specs.Over.{over}
 use Rattle.slices.proofs.Laws.Parts.{part-tail}
 use Rattle.aes.specs.Columns.{columns}
+use Rattle.aes.proofs.Laws.Tabled.{columns-block, eqInvCipherBy-td}
 use Rattle.fips197.specs.Fips197.{eqInvCipher}
 use Rattle.fips197.proofs.Laws.Equivalent.{length-eqInvCipher}
 use Rattle.cbc.proofs.Laws.Turns.{cipherBlock, cipherBlock-zero, cipherBlock-more, cipherBlock-all, decryptedTo, decryptedTo-zero, decryptedTo-all, length-decryptedOver, decrypt-block, decrypt-turn}
@@ -61,11 +62,13 @@ loop-again c =
     let fits : 16 * l .i ≤ length d = omega arith in
     let more : 16 * (l .i + 1) ≤ length d = omega arith in
     let block = loaded .load-front .ensures ∙ ap (take 16) (part-tail (16 * l .i) (l .out)) in
+    let x = loaded .load-front .result in
+    let by-td = eqInvCipherBy-td (start .pre .0) (start .pre .1) v (columns x) (columns-block (x .a) (x .b) (x .c) (x .d)) in
     let whole =
     decrypt-turn (under v) (keeps v) prev refl d (l .i) fits (l .out) (l .inv .1 .1 .1 .1 .0)
     (columns (loaded .load-front .result)) (columns (decrypted .decrypt .result)) (columns (l .before)) (columns (xored .xor .result))
     (stored .store-front .last .0) (length (l .out) - 16 * l .i)
-    block (decrypted .decrypt .ensures (start .pre .0) (start .pre .1)) (l .inv .1 .1 .1 .0) (xored .xor .ensures)
+    block (decrypted .decrypt .ensures ∙ by-td) (l .inv .1 .1 .1 .0) (xored .xor .ensures)
     (omega arith) (stored .store-front .ensures) in (
       search needs,
       (

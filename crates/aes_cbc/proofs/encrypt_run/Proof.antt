@@ -10,6 +10,7 @@ use lib.ListN.{length, take}
 use Rattle.slices.specs.Over.{over}
 use Rattle.slices.proofs.Laws.Parts.{part-tail}
 use Rattle.aes.specs.Columns.{columns}
+use Rattle.aes.proofs.Laws.Tabled.{columns-block, cipherBy-te}
 use Rattle.fips197.specs.Fips197.{cipher}
 use Rattle.fips197.proofs.Laws.Inverse.{length-cipher}
 use Rattle.cbc.proofs.Laws.Turns.{encryptedTo, encryptedTo-zero, encryptedTo-all, encryptedLast, encryptedLast-zero, encryptedLast-all, length-encryptedOver, encrypt-turn}
@@ -63,11 +64,13 @@ loop-again c =
     let fits : 16 * l .i ≤ length d = omega arith in
     let more : 16 * (l .i + 1) ≤ length d = omega arith in
     let block = loaded .load-front .ensures ∙ ap (take 16) (part-tail (16 * l .i) (l .out)) in
+    let x = xored .xor .result in
+    let by-te = cipherBy-te (start .pre) w (columns x) (columns-block (x .a) (x .b) (x .c) (x .d)) in
     let turn =
     encrypt-turn (under w) (keeps w) prev refl d (l .i) fits (l .out) (l .inv .1 .1 .1 .1 .0)
     (columns (loaded .load-front .result)) (columns (l .before)) (columns (xored .xor .result)) (columns (encrypted .encrypt .result))
     (stored .store-front .last .0) (length (l .out) - 16 * l .i)
-    block (l .inv .1 .1 .1 .0) (xored .xor .ensures) (encrypted .encrypt .ensures (start .pre))
+    block (l .inv .1 .1 .1 .0) (xored .xor .ensures) (encrypted .encrypt .ensures ∙ by-te)
     (omega arith) (stored .store-front .ensures) in (
       search needs,
       (

@@ -2,13 +2,15 @@
 --
 -- In order:
 --   rotr8-bytes, bytes-turned, column-is    as the code computes a column, in any table
---   column-te, column-td                    a column of a round
---   subColumn-te, invSubColumn-inverse      a column of the last round
---   subWord-is, invMixWord-is               a word of the key schedule and of its dual
+--   columnWord-is                           a word as a column, in any table
+--   columnByte-te, columnByte-td            a byte of a round's column, where the table is the right one
+--   te-sbox, subColumn-bytes                a column of the last round
+--   entries-inverse                         .. of the inverse cipher, where the table is the right one
+--   subWord-is, invMixWord-is               a word of the key schedule and of its dual, likewise
 -- Assumes nothing.
 use mathlib.Core.Path.{_≡_, sym, _∙_, ap}
 use mathlib.Core.List.{List}
-use Prim.Native.Nat.{ℕ, _+_, _*_, _/_, _%_, _^_, _<_}
+use Prim.Native.Nat.{ℕ, zero, suc, _+_, _*_, _/_, _%_, _^_, _<_}
 use native.Mathlib.Omega.{arith}
 use lib.Bits.{bitXor, xor-zero-r}
 use lib.ListN.{getD}
@@ -20,7 +22,7 @@ use Rattle.gf256.proofs.Laws.Sbox.{sbox-lt, invSbox-lt, invSbox-sbox}
 use Rattle.fips197.specs.Fips197.{word, byteOf, mixByte, subWord, invMixByte, invMixWord}
 use Rattle.fips197.specs.HasBytes.{HasBytes}
 use Rattle.fips197.proofs.Laws.Words.{byteOf-lt, bytes-own, bytes-word, word-bytes, bytes-is, bytes-xor}
-use Rattle.aes_tables.specs.Tables.{te, inverse, td, entry, IsColumn, subColumn, invSubColumn}
+use Rattle.aes_tables.specs.Tables.{te, inverse, td, entryByte, columnByte, IsColumn, columnWord, subColumn}
 use Rattle.aes_tables.proofs.Laws.Entries.{te-entry, inverse-entry, td-entry}
 
 pub rotr8-bytes : (w : ℕ) → w < 2 ^ 32 → HasBytes (w % 256 * 0x1000000 + w / 256) (byteOf w 3) (byteOf w 0) (byteOf w 1) (byteOf w 2)
@@ -58,83 +60,83 @@ column-is e f g h k u v w p q r =
     (xor-sum4 (byteOf e 3) (byteOf f 2) (byteOf g 1) (byteOf h 0)))
     (bytes-own k)
 
--- a column through SubBytes() and MixColumns(): byte r
-abbrev pub mixedByte : ℕ → ℕ → ℕ → ℕ → ℕ → ℕ
-mixedByte a b c d r = mixByte r (sbox (byteOf a 0)) (sbox (byteOf b 1)) (sbox (byteOf c 2)) (sbox (byteOf d 3))
-
-pub column-te : {t : List ℕ} → t ≡ te → (a b c d k w : ℕ) → IsColumn t a b c d k w
-    → HasBytes w (bitXor (mixedByte a b c d 0) (byteOf k 0)) (bitXor (mixedByte a b c d 1) (byteOf k 1)) (bitXor (mixedByte a b c d 2) (byteOf k 2))
-    (bitXor (mixedByte a b c d 3) (byteOf k 3))
-column-te e a b c d k w p =
-    let A = te-entry e (byteOf a 0) (byteOf-lt a 0) in
-    let B = te-entry e (byteOf b 1) (byteOf-lt b 1) in
-    let C = te-entry e (byteOf c 2) (byteOf-lt c 2) in
-    let D = te-entry e (byteOf d 3) (byteOf-lt d 3) in
-    bytes-is p
-    (ap (λ (x : ℕ). bitXor x (byteOf k 0)) (sum4-ap (A .at0) (B .at3) (C .at2) (D .at1)))
-    (ap (λ (x : ℕ). bitXor x (byteOf k 1)) (sum4-ap (A .at1) (B .at0) (C .at3) (D .at2)))
-    (ap (λ (x : ℕ). bitXor x (byteOf k 2)) (sum4-ap (A .at2) (B .at1) (C .at0) (D .at3)))
-    (ap (λ (x : ℕ). bitXor x (byteOf k 3)) (sum4-ap (A .at3) (B .at2) (C .at1) (D .at0)))
-
--- a column through InvSubBytes() and InvMixColumns(): byte r
-abbrev pub invMixedByte : ℕ → ℕ → ℕ → ℕ → ℕ → ℕ
-invMixedByte a b c d r = invMixByte r (invSbox (byteOf a 0)) (invSbox (byteOf b 1)) (invSbox (byteOf c 2)) (invSbox (byteOf d 3))
-
-pub column-td : {t : List ℕ} → t ≡ td → (a b c d k w : ℕ) → IsColumn t a b c d k w
-    → HasBytes w (bitXor (invMixedByte a b c d 0) (byteOf k 0)) (bitXor (invMixedByte a b c d 1) (byteOf k 1))
-    (bitXor (invMixedByte a b c d 2) (byteOf k 2)) (bitXor (invMixedByte a b c d 3) (byteOf k 3))
-column-td e a b c d k w p =
-    let A = td-entry e (byteOf a 0) (byteOf-lt a 0) in
-    let B = td-entry e (byteOf b 1) (byteOf-lt b 1) in
-    let C = td-entry e (byteOf c 2) (byteOf-lt c 2) in
-    let D = td-entry e (byteOf d 3) (byteOf-lt d 3) in
-    bytes-is p
-    (ap (λ (x : ℕ). bitXor x (byteOf k 0)) (sum4-ap (A .at0) (B .at3) (C .at2) (D .at1)))
-    (ap (λ (x : ℕ). bitXor x (byteOf k 1)) (sum4-ap (A .at1) (B .at0) (C .at3) (D .at2)))
-    (ap (λ (x : ℕ). bitXor x (byteOf k 2)) (sum4-ap (A .at2) (B .at1) (C .at0) (D .at3)))
-    (ap (λ (x : ℕ). bitXor x (byteOf k 3)) (sum4-ap (A .at3) (B .at2) (C .at1) (D .at0)))
-
--- byte 1 of an entry of te is the S-box
-te-sbox : {t : List ℕ} → t ≡ te → (w q : ℕ) → entry t w q 1 ≡ sbox (byteOf w q)
-te-sbox e w q = te-entry e (byteOf w q) (byteOf-lt w q) .at1
-
-pub subColumn-te : {t : List ℕ} → t ≡ te → (a b c d : ℕ)
-    → HasBytes (subColumn t a b c d) (sbox (byteOf a 0)) (sbox (byteOf b 1)) (sbox (byteOf c 2)) (sbox (byteOf d 3))
-unfolding subColumn
-subColumn-te {t} e a b c d =
-    bytes-is
-    (bytes-word (byteOf-lt (getD t (byteOf a 0) 0) 1) (byteOf-lt (getD t (byteOf b 1) 0) 1) (byteOf-lt (getD t (byteOf c 2) 0) 1)
-    (byteOf-lt (getD t (byteOf d 3) 0) 1))
-    (te-sbox e a 0) (te-sbox e b 1) (te-sbox e c 2) (te-sbox e d 3)
-
-pub invSubColumn-inverse : {t : List ℕ} → t ≡ inverse → (a b c d : ℕ)
-    → HasBytes (invSubColumn t a b c d) (invSbox (byteOf a 0)) (invSbox (byteOf b 1)) (invSbox (byteOf c 2)) (invSbox (byteOf d 3))
-unfolding invSubColumn
-invSubColumn-inverse e a b c d =
-    rw (
-      inverse-entry e (byteOf a 0) (byteOf-lt a 0),
-      inverse-entry e (byteOf b 1) (byteOf-lt b 1),
-      inverse-entry e (byteOf c 2) (byteOf-lt c 2),
-      inverse-entry e (byteOf d 3) (byteOf-lt d 3),
-    )
-    (bytes-word (invSbox-lt (byteOf a 0) (byteOf-lt a 0)) (invSbox-lt (byteOf b 1) (byteOf-lt b 1)) (invSbox-lt (byteOf c 2) (byteOf-lt c 2))
-    (invSbox-lt (byteOf d 3) (byteOf-lt d 3)))
-
-pub subWord-is : {t : List ℕ} → t ≡ te → (w : ℕ) → subColumn t w w w w ≡ subWord w
-unfolding subColumn subWord
-subWord-is e w = rw (te-sbox e w 0, te-sbox e w 1, te-sbox e w 2, te-sbox e w 3)
-
 -- a word is its bytes
 word-is : {w a b c d : ℕ} → w < 2 ^ 32 → HasBytes w a b c d → w ≡ word a b c d
 word-is {w} h p = sym (word-bytes w h) ∙ rw (p .at0, p .at1, p .at2, p .at3)
 
+pub columnWord-is : (t : List ℕ) (z r : ℕ) → r < 2 ^ 32 → IsColumn t z z z z 0 r → r ≡ columnWord t z
+unfolding columnWord
+columnWord-is t z r h p = word-is h (bytes-is p (xor-zero-r _) (xor-zero-r _) (xor-zero-r _) (xor-zero-r _))
+
+-- SubBytes() and MixColumns(), by the entries of te
+pub columnByte-te : {t : List ℕ} → t ≡ te → (r x₀ x₁ x₂ x₃ : ℕ) → x₀ < 256 → x₁ < 256 → x₂ < 256 → x₃ < 256
+    → columnByte t r x₀ x₁ x₂ x₃ ≡ mixByte r (sbox x₀) (sbox x₁) (sbox x₂) (sbox x₃)
+columnByte-te e zero x₀ x₁ x₂ x₃ h₀ h₁ h₂ h₃ =
+    sum4-ap (te-entry e x₀ h₀ .at0) (te-entry e x₁ h₁ .at3) (te-entry e x₂ h₂ .at2) (te-entry e x₃ h₃ .at1)
+columnByte-te e (suc zero) x₀ x₁ x₂ x₃ h₀ h₁ h₂ h₃ =
+    sum4-ap (te-entry e x₀ h₀ .at1) (te-entry e x₁ h₁ .at0) (te-entry e x₂ h₂ .at3) (te-entry e x₃ h₃ .at2)
+columnByte-te e (suc (suc zero)) x₀ x₁ x₂ x₃ h₀ h₁ h₂ h₃ =
+    sum4-ap (te-entry e x₀ h₀ .at2) (te-entry e x₁ h₁ .at1) (te-entry e x₂ h₂ .at0) (te-entry e x₃ h₃ .at3)
+columnByte-te e (suc (suc (suc r))) x₀ x₁ x₂ x₃ h₀ h₁ h₂ h₃ =
+    sum4-ap (te-entry e x₀ h₀ .at3) (te-entry e x₁ h₁ .at2) (te-entry e x₂ h₂ .at1) (te-entry e x₃ h₃ .at0)
+
+-- InvSubBytes() and InvMixColumns(), by the entries of td
+pub columnByte-td : {t : List ℕ} → t ≡ td → (r x₀ x₁ x₂ x₃ : ℕ) → x₀ < 256 → x₁ < 256 → x₂ < 256 → x₃ < 256
+    → columnByte t r x₀ x₁ x₂ x₃ ≡ invMixByte r (invSbox x₀) (invSbox x₁) (invSbox x₂) (invSbox x₃)
+columnByte-td e zero x₀ x₁ x₂ x₃ h₀ h₁ h₂ h₃ =
+    sum4-ap (td-entry e x₀ h₀ .at0) (td-entry e x₁ h₁ .at3) (td-entry e x₂ h₂ .at2) (td-entry e x₃ h₃ .at1)
+columnByte-td e (suc zero) x₀ x₁ x₂ x₃ h₀ h₁ h₂ h₃ =
+    sum4-ap (td-entry e x₀ h₀ .at1) (td-entry e x₁ h₁ .at0) (td-entry e x₂ h₂ .at3) (td-entry e x₃ h₃ .at2)
+columnByte-td e (suc (suc zero)) x₀ x₁ x₂ x₃ h₀ h₁ h₂ h₃ =
+    sum4-ap (td-entry e x₀ h₀ .at2) (td-entry e x₁ h₁ .at1) (td-entry e x₂ h₂ .at0) (td-entry e x₃ h₃ .at3)
+columnByte-td e (suc (suc (suc r))) x₀ x₁ x₂ x₃ h₀ h₁ h₂ h₃ =
+    sum4-ap (td-entry e x₀ h₀ .at3) (td-entry e x₁ h₁ .at2) (td-entry e x₂ h₂ .at1) (td-entry e x₃ h₃ .at0)
+
+-- byte 1 of an entry of te is the S-box
+pub te-sbox : {t : List ℕ} → t ≡ te → (x : ℕ) → x < 256 → entryByte t x 1 ≡ sbox x
+te-sbox e x h = te-entry e x h .at1
+
+pub subColumn-bytes : (t : List ℕ) (a b c d : ℕ)
+    → HasBytes (subColumn t a b c d) (entryByte t (byteOf a 0) 1) (entryByte t (byteOf b 1) 1)
+    (entryByte t (byteOf c 2) 1) (entryByte t (byteOf d 3) 1)
+unfolding subColumn
+subColumn-bytes t a b c d =
+    bytes-word (byteOf-lt (getD t (byteOf a 0) 0) 1) (byteOf-lt (getD t (byteOf b 1) 0) 1)
+    (byteOf-lt (getD t (byteOf c 2) 0) 1) (byteOf-lt (getD t (byteOf d 3) 0) 1)
+
+-- the word of four entries has them for its bytes
+pub entries-inverse : {t : List ℕ} → t ≡ inverse → (x₀ x₁ x₂ x₃ : ℕ) → x₀ < 256 → x₁ < 256 → x₂ < 256 → x₃ < 256
+    → HasBytes (word (getD t x₀ 0) (getD t x₁ 0) (getD t x₂ 0) (getD t x₃ 0)) (invSbox x₀) (invSbox x₁)
+    (invSbox x₂) (invSbox x₃)
+entries-inverse e x₀ x₁ x₂ x₃ h₀ h₁ h₂ h₃ =
+    rw (inverse-entry e x₀ h₀, inverse-entry e x₁ h₁, inverse-entry e x₂ h₂, inverse-entry e x₃ h₃)
+    (bytes-word (invSbox-lt x₀ h₀) (invSbox-lt x₁ h₁) (invSbox-lt x₂ h₂) (invSbox-lt x₃ h₃))
+
+pub subWord-is : {t : List ℕ} → t ≡ te → (w : ℕ) → subColumn t w w w w ≡ subWord w
+unfolding subColumn subWord
+subWord-is e w =
+    rw (
+      te-sbox e (byteOf w 0) (byteOf-lt w 0),
+      te-sbox e (byteOf w 1) (byteOf-lt w 1),
+      te-sbox e (byteOf w 2) (byteOf-lt w 2),
+      te-sbox e (byteOf w 3) (byteOf-lt w 3),
+    )
+
 undone : (z w r : ℕ) → byteOf z r ≡ sbox (byteOf w r) → invSbox (byteOf z r) ≡ byteOf w r
 undone z w r e = ap invSbox e ∙ invSbox-sbox (byteOf w r) (byteOf-lt w r)
 
+-- a byte of a word's column
+columnByte-of : {t : List ℕ} → t ≡ td → (z r : ℕ)
+    → columnByte t r (byteOf z 0) (byteOf z 1) (byteOf z 2) (byteOf z 3)
+    ≡ invMixByte r (invSbox (byteOf z 0)) (invSbox (byteOf z 1)) (invSbox (byteOf z 2)) (invSbox (byteOf z 3))
+columnByte-of e z r =
+    columnByte-td e r (byteOf z 0) (byteOf z 1) (byteOf z 2) (byteOf z 3) (byteOf-lt z 0) (byteOf-lt z 1)
+    (byteOf-lt z 2) (byteOf-lt z 3)
+
 -- the table td at the S-box's values has the products of the bytes themselves
-pub invMixWord-is : {t : List ℕ} → t ≡ td → (w z r : ℕ) → z ≡ subWord w → r < 2 ^ 32 → IsColumn t z z z z 0 r → r ≡ invMixWord w
-unfolding subWord invMixWord
-invMixWord-is e' w z r e h p =
+pub invMixWord-is : {t : List ℕ} → t ≡ td → (w z : ℕ) → z ≡ subWord w → columnWord t z ≡ invMixWord w
+unfolding subWord columnWord invMixWord
+invMixWord-is e' w z e =
     let S =
     bytes-word (sbox-lt (byteOf w 0) (byteOf-lt w 0)) (sbox-lt (byteOf w 1) (byteOf-lt w 1)) (sbox-lt (byteOf w 2) (byteOf-lt w 2))
     (sbox-lt (byteOf w 3) (byteOf-lt w 3)) in
@@ -142,10 +144,5 @@ invMixWord-is e' w z r e h p =
     let b₁ : invSbox (byteOf z 1) ≡ byteOf w 1 = undone z w 1 (ap (λ (x : ℕ). byteOf x 1) e ∙ S .at1) in
     let b₂ : invSbox (byteOf z 2) ≡ byteOf w 2 = undone z w 2 (ap (λ (x : ℕ). byteOf x 2) e ∙ S .at2) in
     let b₃ : invSbox (byteOf z 3) ≡ byteOf w 3 = undone z w 3 (ap (λ (x : ℕ). byteOf x 3) e ∙ S .at3) in
-    let q = column-td e' z z z z 0 r p in
-    word-is h
-    (bytes-is q
-    (xor-zero-r (invMixedByte z z z z 0) ∙ rw (b₀, b₁, b₂, b₃))
-    (xor-zero-r (invMixedByte z z z z 1) ∙ rw (b₀, b₁, b₂, b₃))
-    (xor-zero-r (invMixedByte z z z z 2) ∙ rw (b₀, b₁, b₂, b₃))
-    (xor-zero-r (invMixedByte z z z z 3) ∙ rw (b₀, b₁, b₂, b₃)))
+    let q = columnByte-of e' z in
+    rw (q 0, q 1, q 2, q 3, b₀, b₁, b₂, b₃)

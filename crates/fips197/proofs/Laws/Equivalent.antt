@@ -5,6 +5,7 @@
 --   dualWord-first, dualWord-mixed, dualWord-last        the words of the dual key schedule
 --   invMixColumns-addRoundKey                            a round key mixed beforehand
 --   eqInvCipher-dual, length-eqInvCipher                 the theorem
+--   eqInvRounds-block                                    blocks
 -- Assumes nothing.
 use mathlib.Core.Path.{_≡_, refl, sym, _∙_, ap}
 use mathlib.Core.List.{List}
@@ -13,6 +14,7 @@ use native.Mathlib.Omega.{arith}
 use lib.Bits.{bitXor}
 use lib.ListN.{length, getD}
 use borrow.Author.Tests.{lt-ltb, le-ltb}
+use Rattle.words.specs.Block.{IsBlock}
 use Rattle.fips197.specs.Fips197.{
   at,
   byteOf,
@@ -38,6 +40,7 @@ use Rattle.fips197.proofs.Laws.Tabulate.{getD-tabulate}
 use Rattle.fips197.proofs.Laws.Words.{bytes-word}
 use Rattle.fips197.proofs.Laws.States.{state-same}
 use Rattle.fips197.proofs.Laws.Mix.{invMixByte-lt, invMixByte-linear}
+use Rattle.fips197.proofs.Laws.Transformations.{addRoundKey-block, invMixColumns-block}
 
 -- byte r of the column that a word is, mixed
 abbrev pub invMixOf : ℕ → ℕ → ℕ
@@ -127,3 +130,10 @@ eqInvCipher-dual s w =
 pub length-eqInvCipher : (s v : List ℕ) → length (eqInvCipher s v) ≡ 16
 unfolding eqInvCipher eqInvFinalRound
 length-eqInvCipher s v = refl
+
+pub eqInvRounds-block : (s v : List ℕ) (n : ℕ) → IsBlock s → IsBlock (eqInvRounds s v n)
+unfolding eqInvRounds eqInvRound
+eqInvRounds-block s v zero p = p
+eqInvRounds-block s v (suc n) p =
+    addRoundKey-block (invMixColumns (invShiftRows (invSubBytes (eqInvRounds s v n)))) v (13 - n)
+    (invMixColumns-block (invShiftRows (invSubBytes (eqInvRounds s v n))))

@@ -1,7 +1,7 @@
 -- FIPS 197, 5.3: InvCipher() undoes Cipher(), and Cipher() it, on every block and under every key schedule.
 --
 -- In order:
---   cipher-block, invCipher-block            blocks
+--   rounds-block, cipher-block, invCipher-block    blocks
 --   invCipher-cipher, cipher-invCipher       the theorem
 --   length-cipher, length-invCipher          on lists that are no blocks too
 -- Not here: the transformations of a round (Transformations).
@@ -45,7 +45,7 @@ module _ (w : List ℕ) where
   unfolding round
   round-block s i p = addRoundKey-block (mixColumns (sub s)) w i (mixColumns-block (sub s) (sub-block s p))
 
-  rounds-block : (s : List ℕ) (n : ℕ) → IsBlock s → IsBlock (rounds s w n)
+  pub rounds-block : (s : List ℕ) (n : ℕ) → IsBlock s → IsBlock (rounds s w n)
   unfolding rounds
   rounds-block s zero p = p
   rounds-block s (suc n) p = round-block (rounds s w n) (suc n) (rounds-block s n p)

@@ -4,40 +4,40 @@ use mathlib.Core.List.{List}
 use Prim.Native.Nat.{ℕ, _-_, _≤_}
 use native.Mathlib.Omega.{arith}
 use denote.Ref.{now}
-use Rattle.fips197.specs.Fips197.{rounds, finalRound, cipher}
-use Rattle.aes_tables.specs.Tables as tables
 use Rattle.aes.specs.Columns.{columns}
-use Rattle.aes.proofs.Laws.Rounds.{rounds-more}
+use Rattle.aes.specs.Tabled.{roundsBy, finalRoundBy, cipherBy}
+use Rattle.aes.proofs.Laws.Rounds.{roundsBy-more}
 use borrow.Author.Needs.{needs}
 use Rattle.aes.proofs.cipher.encrypt.Statement.{statement}
 use Rattle.aes.proofs.cipher.encrypt.Tie as tie
 
 abbrev Inv-loop : tie.InvT-loop
 Inv-loop te w x₀ i₀ x i =
-    (i ≤ 13) × (te ≡ tables.te → columns x ≡ rounds (columns x₀) w i)
+    (i ≤ 13) × (columns x ≡ roundsBy te (columns x₀) w i)
 
 abbrev μ-loop : tie.MeasureT-loop
 μ-loop te w x₀ i₀ x i = 13 - i
 
 loop-holds : tie.Need-loop-holds Inv-loop μ-loop
-unfolding rounds
-loop-holds c = (search needs, λ e. refl)
+unfolding roundsBy
+loop-holds c = (search needs, refl)
 
 loop-again : tie.Need-loop-again Inv-loop μ-loop
 loop-again c =
     let l = c .before .before .loop in
-    (search needs, λ e. rounds-more _ _ (l .i) (columns (l .x)) _ (l .inv .1 e) (c .round .ensures e))
+    (search needs, roundsBy-more _ _ _ (l .i) (columns (l .x)) _ (l .inv .1) (c .round .ensures))
 
 returns : tie.Need-returns Inv-loop μ-loop
-unfolding cipher
+unfolding cipherBy
 returns c =
-    λ e. let l = c .before .before .loop in
+    let l = c .before .before .loop in
     let a = c .before .before .before .before .args in
+    let t = now (a .te) in
+    let w = now (a .w) in
     let n : l .i ≡ 13 = omega arith in
-    c .final-round .ensures e
-    ∙ ap (λ (x : List ℕ). finalRound x (now (a .w)))
-    (l .inv .1 e ∙ ap (rounds _ (now (a .w))) n
-    ∙ ap (λ (x : List ℕ). rounds x (now (a .w)) 13) (c .before .before .before .add-round-key .ensures))
+    c .final-round .ensures
+    ∙ ap (λ (x : List ℕ). finalRoundBy t x w)
+    (l .inv .1 ∙ ap (roundsBy t _ w) n ∙ ap (λ (x : List ℕ). roundsBy t x w 13) (c .before .before .before .add-round-key .ensures))
 
 pub encrypt-spec : {M : Type 1} → statement M
 encrypt-spec =

@@ -1,17 +1,17 @@
 -- `aes::cipher::round` meets its contract. Assumes nothing.
 use denote.Ref.{now}
-use Rattle.aes.proofs.Laws.Rounds.{round-is}
+use Rattle.aes.proofs.Laws.Rounds.{roundBy-is}
 use borrow.Author.Needs.{needs}
 use Rattle.aes.proofs.cipher.round.Statement.{statement}
 use Rattle.aes.proofs.cipher.round.Tie as tie
 
 returns : tie.Need-returns
-returns c = λ e.
+returns c =
     let third = c .before in
     let second = third .before in
     let first = second .before in
     let a = first .before .before .before .before .before .args in
-    round-is e (now (a .w)) (a .i) (a .s .a) (a .s .b) (a .s .c) (a .s .d)
+    roundBy-is (now (a .te)) (now (a .w)) (a .i) (a .s .a) (a .s .b) (a .s .c) (a .s .d)
     (first .column .result) (second .column2 .result) (third .column3 .result) (c .column4 .result)
     (first .column .ensures) (second .column2 .ensures) (third .column3 .ensures) (c .column4 .ensures)
 

@@ -1,8 +1,8 @@
 -- `aes::schedule::temp` meets its contract. Assumes nothing.
-use mathlib.Core.Path.{sym, ap₂, _∙_}
+use mathlib.Core.Path.{sym, ap, ap₂, _∙_}
 use lib.Bits.{bitXor}
-use mathlib.Core.Path.{ap}
 use Rattle.fips197.specs.Fips197.{subWord}
+use Rattle.aes_tables.proofs.Laws.Columns.{subWord-is}
 use Rattle.fips197.proofs.Laws.Expansion.{temp-first, temp-half, temp-plain}
 use borrow.Author.Needs.{needs}
 use Rattle.aes.proofs.schedule.temp.Statement.{statement}
@@ -11,13 +11,13 @@ use Rattle.aes.proofs.schedule.temp.Tie as tie
 returns : tie.Need-returns
 returns c =
     λ e. let a = c .before .before .before .before .args in
-    ap₂ bitXor (c .before .sub-word .ensures e ∙ ap subWord (c .before .before .rot-word .ensures)) (c .rcon .ensures)
+    ap₂ bitXor (c .before .sub-word .ensures ∙ subWord-is e _ ∙ ap subWord (c .before .before .rot-word .ensures)) (c .rcon .ensures)
     ∙ sym (temp-first (a .i) (a .p) (c .before .before .before .if1 .taken))
 
 returns-2 : tie.Need-returns-2
 returns-2 c =
     λ e. let a = c .before .before .before .args in
-    c .sub-word2 .ensures e ∙ sym (temp-half (a .i) (a .p) (c .before .before .if1 .left) (c .before .if2 .taken))
+    c .sub-word2 .ensures ∙ subWord-is e _ ∙ sym (temp-half (a .i) (a .p) (c .before .before .if1 .left) (c .before .if2 .taken))
 
 returns-3 : tie.Need-returns-3
 returns-3 c =
