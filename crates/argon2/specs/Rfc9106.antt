@@ -1,5 +1,6 @@
 -- RFC 9106 (September 2021), Argon2 Memory-Hard Function: Argon2d and Argon2id, version 0x13, from the inputs to the tag.
 --
+--   2                  LE32(a)                                  words' Endian: leBytes 4
 --   3.1                inputs                                   Inputs
 --   3.2, step 1        H_0                                      counted, prehash, h0
 --   3.2, step 2        p lanes of q blocks, m' in all           figures (argon2_fill's laneLength and blocks)

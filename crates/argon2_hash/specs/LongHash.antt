@@ -1,7 +1,7 @@
 -- RFC 9106 (September 2021), Argon2, 3.3: the variable-length hash function H'.
 --
+--   2     LE32(a)      words' Endian: leBytes 4
 --   3.2   H^(x)(A)     BLAKE2b with x bytes of digest (blake2b's Rfc7693)
---         LE32(a)      words' Endian: leBytes 4
 --   3.3   H'^T(A)      wholes, value, firsts, longer, longHash
 -- What `fill` makes of a lent slice is here too: filled, fillOutcome.
 -- Differs: T is any number, where the RFC has 1 to 2^32 - 1; LE32(T) has its low 32 bits.

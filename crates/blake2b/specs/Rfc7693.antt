@@ -1,8 +1,8 @@
 -- RFC 7693 (November 2015), The BLAKE2 Cryptographic Hash and Message Authentication Code: BLAKE2b without a key.
 --
 --   2.1   parameters               words of 64 bits, 12 rounds, blocks of 128 bytes, rotations 32, 24, 16 and 63
---   2.3   words and bytes          blockWords, serialize
---   2.6   initialization vector    FIPS 180-4's for SHA-512 (sha2's Constants: iv512)
+--   2.4   words and bytes          blockWords, serialize
+--   2.6   initialization vector    FIPS 180-4's for SHA-512 (sha2's Fips180.Constants: iv512)
 --   2.7   message schedule         Constants: SIGMA; scheduled
 --   3.1   mixing function G        Four, half, mix, G
 --   3.2   compression function F   working, roundOn, rounds, joined, F
@@ -24,7 +24,7 @@ use Rattle.sha2.specs.Fips180.Constants.{iv512}
 pub mod Constants
 use Rattle.blake2b.specs.Rfc7693.Constants.{SIGMA}
 
--- 2.3: the first n words of some bytes, least significant byte first
+-- 2.4: the first n words of some bytes, least significant byte first
 unfoldable pub blockWords : ℕ → List ℕ → List ℕ
 blockWords zero block = []
 blockWords (suc n) block = blockWords n block ++ (le 8 block (n * 8) ∷ [])

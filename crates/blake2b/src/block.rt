@@ -25,7 +25,7 @@ fn word_at(s: &[u8], at: usize) -> u64
     (half_at(s, at) as u64) + (half_at(s, at + 4) as u64) * 0x1_0000_0000
 }
 
-// 2.3: the sixteen words of the block that `s` begins with.
+// 2.4: the sixteen words of the block that `s` begins with.
 fn load(m: &mut [u64; 16], s: &[u8])
     requires { ⌜ length (now m) ≡ 16 ⌝ }
     requires { ⌜ 128 ≤ length (now s) ⌝ }

@@ -6,7 +6,8 @@
 --   header-written      .. so the header is accepted
 --   header-read-back    figures that pass the writer's checks are read back
 --   header-few          a header of AES-KDF with too few rounds is refused, whatever its custom dictionary is
--- Not here: that code lays those bytes (header_writer::write); bytes behind any header (crate outer_header, Behind).
+-- Not here: that code lays those bytes (header_writer::write); bytes behind any header (crate outer_header,
+-- Laws.Behind).
 -- Assumes nothing.
 use mathlib.Core.Path.{_≡_, refl, sym, ap, _∙_}
 use mathlib.Core.Bool.{true, false}

@@ -8,7 +8,7 @@
 --   "custom dictionary (zero length: field absent)"             customField
 --   "Fields are 2, 3, 4, 7, 11, 12, 0"                          headerBytes
 --   document 02, Item 8: "from writers .. it is zero"           every refusal's place
--- Not here: fields (crate fields), the KDF dictionary (crate dictionary, Kdf), reading (crate outer_header).
+-- Not here: fields (crate fields), the KDF dictionary (crate kdf_dictionary, Kdf), reading (crate outer_header).
 -- Assumes nothing.
 use mathlib.Core.Bool.{Bool, true, cond}
 use mathlib.Core.List.{List, [], _∷_, _++_}

@@ -1,7 +1,7 @@
 -- The inner stream of a payload: document 02, Item 1, "Show a protected password".
 --
---   "ChaCha20 (3): SHA-512 of the key, first 32 bytes as key, next 12 as nonce"    cipherKey, cipherNonce, blocks
---   "Salsa20 (2): SHA-256 of the key, nonce E830094B97205D2A"                      salsaNonce, cipherKey, blocks
+--   "ChaCha20 (3): SHA-512 of the key, first 32 bytes as key, next 12 as nonce"    chaChaKey, chaChaNonce, blocks
+--   "Salsa20 (2): SHA-256 of the key, nonce E830094B97205D2A"                      salsaNonce, salsaKey, blocks
 --   "Counters start at 0"                                                          the crate stream's apply
 --   "a stretch of bytes at stream position p uncovered or covered"                 covered
 --   "Refusals: 9 for another algorithm, then 1 where the key's length or position

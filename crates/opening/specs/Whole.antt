@@ -2,7 +2,7 @@
 --
 -- A walk counts its blocks down from the file's length and one: a block has 36 bytes at least, so the count never ends
 -- it.
--- Not here: the header's checks (crate opener).
+-- Not here: the header's checks (crate vault).
 -- Assumes nothing.
 use mathlib.Core.Bool.{cond}
 use mathlib.Core.List.{List, [], _++_}

@@ -13,7 +13,8 @@
 --    of the dictionary item at fault"                                                     header, judged, identified
 -- A walk counts its fields down from the file's length: a field has five bytes or more, so the count never ends it.
 -- A field that is absent has the place 0, where no field's value stands.
--- Not here: one field (crate fields); dictionaries (crates dictionary and kdf_dictionary); writing (Written).
+-- Not here: one field (crate fields); dictionaries (crates dictionary and kdf_dictionary); writing (crate
+-- header_writer, Written).
 -- Assumes nothing.
 use mathlib.Core.Bool.{Bool, false, cond, _&&_, _||_}
 use mathlib.Core.List.{List, [], _∷_}

@@ -4,7 +4,7 @@
 --    for 4, 8; for 8 the end field; otherwise the first byte of the field,
 --    or of the dictionary item at fault"                                  PointsTo, PointsToInner, PointsToLone
 --   "A dictionary fault that belongs to no item points to where the
---    dictionary's value begins"                                           FaultAt, NeedAt
+--    dictionary's value begins"                                           FaultAt, NeedAt (Items)
 --   "counted from the front of the file, .. payload or lone dictionary"   InValue, Begins
 -- Where a field or an item begins is said by sizes alone, from the front on: FieldAt, FieldOf, FieldAgain; ComeTo,
 -- ItemAt, ItemOf, ItemAgain. The readers' walks and searches are not cited there.

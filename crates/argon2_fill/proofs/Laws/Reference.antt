@@ -1,12 +1,13 @@
 -- How many blocks are to choose from, and which one a word chooses.
 --
 -- In order:
---   referenceLane-own, referenceLane-any, referenceLane-lt    the lane
+--   referenceLane-own, referenceLane-later, referenceLane-next, referenceLane-lt    the lane
 --   finished-first, finished-later, finished-le, finished-open, finished-other    blocks of finished segments
 --   area-own, area-front, area-other, area-ge, area-le        at least one, and not too many
---   product-lt-word, relative-le                              no step leaves a word
+--   square-lt, relative-le                                    no step leaves a word
+--   relative-is, relative-lt                                  the place among them
 --   first-front, first-later, first-le                        where they begin
---   reference-lt                                              the reference block stands in the memory
+--   reference-is, reference-lt                                the reference block stands in the memory
 -- Not here: where blocks stand (Places).
 -- Assumes nothing.
 use mathlib.Core.Path.{_≡_}

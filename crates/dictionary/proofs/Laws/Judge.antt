@@ -9,7 +9,7 @@
 --   Alike, judge-same           only which numbers are known matters
 --   judge-added                 a name that is not known, in a table that has it now
 --   filled-done, filled-full    what a batch comes to
---   full-met, full-unmet        a batch, where a later item has a name of it, and where none has
+--   full-met                    a batch, up to the first later item that has a name of it
 -- Not here: the verdict (Verdict).
 -- Assumes nothing.
 use mathlib.Core.Path.{_≡_, refl, sym, ap, ap₂, subst, _∙_}

@@ -1,6 +1,6 @@
 -- Every attachment of a payload's fields has its flags byte, and lies within the payload.
 --
--- In order: Within, Sound, fieldOf-within, sound-snoc, walk-sound, opened-sound.
+-- In order: Within, Sound, fieldOf-within, sound-snoc, put-sound, walk-kept, opened-sound.
 -- Assumes nothing.
 use mathlib.Core.Path.{_≡_, refl, sym, _∙_}
 use mathlib.Core.List.{List, [], _∷_, _++_}

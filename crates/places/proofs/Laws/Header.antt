@@ -1,10 +1,10 @@
 -- The places of an outer header that is refused.
 --
 -- In order:
---   Before, put-before, walk-before    the dictionaries end before the end field
---   walkLies, walk-lies                the walk over the fields
---   begin-lt                           the first byte of a field that was met
---   judged-lies, header-lies           the checks after the end field; all checks
+--   Before, put-before, before-further    the dictionaries end before the end field
+--   walkLies, walk-lies                   the walk over the fields
+--   begin-lt                              the first byte of a field that was met
+--   judged-lies, header-lies              the checks after the end field; all checks
 -- Assumes nothing.
 use mathlib.Core.Path.{_≡_, refl, sym}
 use mathlib.Core.Bool.{Bool, true, false, cond}
