@@ -8,12 +8,14 @@
 --   key-in-one-step           all rounds in one step
 --   started-within            an accepted start has no more rounds than the limit
 --   doneBy-le, doneBy-end     no more rounds are done than are asked for; j steps of n do all of r where j * n is at least r
---   steps-end                 steps of n, n at least 1, end within r / n rounded up
+--   steps-end, steps-short    r / n rounded up steps of n, n at least 1, do all of r, and so do more; fewer do fewer
+--   helpings-end              .. in one statement: after so many or more T is the definition's, and before it is 19
+--   key-of-no-rounds          R = 0 has T from the start
 -- Assumes nothing.
 use mathlib.Core.Path.{_≡_, refl, ap, _∙_}
 use mathlib.Core.List.{List, [], _∷_}
-use Prim.Native.Nat.{ℕ, zero, suc, _+_, _-_, _*_, _/_, _≤_, min}
-use native.Mathlib.Nat.{div-add-mod', mod-lt, suc-mul}
+use Prim.Native.Nat.{ℕ, zero, suc, _+_, _-_, _*_, _≤_, _<_, min}
+use native.Mathlib.Nat.{div-add-mod', mod-lt, mul-le-mul-right, suc-mul}
 use native.Mathlib.Omega.{arith}
 use lib.Dec.{leb}
 use lib.ListN.{replicate}
@@ -26,7 +28,7 @@ use Rattle.aes_kdf.specs.declared.Transformation.{Transformation}
 use Rattle.aes_kdf.specs.declared.Transformed.{Transformed}
 use Rattle.aes_kdf.specs.AesKdf as kdf
 use Rattle.aes_kdf.specs.AesKdf.{Transforming, transformedKey, after, doneBy}
-use Rattle.aes_kdf.specs.State.{held, stored, started, advanced, advances, finished}
+use Rattle.aes_kdf.specs.State.{held, stored, started, advanced, advances, finished, roundedUp, EndsWithin}
 use Rattle.aes_kdf.proofs.Laws.{marked-mark, open-after, advanced-after}
 
 pub doneBy-le : (r : ℕ) (ns : List ℕ) (d : ℕ) → d ≤ r → doneBy r ns d ≤ r
@@ -99,8 +101,42 @@ started-within c s r e =
     (λ t. let d = rw t at e in
     let z : _≡_ {A = ℕ} 0 1 = cc in absurd (omega arith))
 
--- so many steps of n as r / n rounded up
-pub steps-end : (r n : ℕ) → 1 ≤ n → doneBy r (replicate ((r + n - 1) / n) n) 0 ≡ r
-steps-end r n h =
+-- so many steps of n as r / n rounded up, or more, do all of r
+pub steps-end : (r n j : ℕ) → 1 ≤ n → roundedUp r n ≤ j → doneBy r (replicate j n) 0 ≡ r
+steps-end r n j h l =
     let m = mod-lt (r + n - 1) h in
-    doneBy-end r n ((r + n - 1) / n) 0 (omega arith) (omega (arith, div-add-mod' (r + n - 1) n))
+    let e : roundedUp r n * n ≤ j * n = mul-le-mul-right n l in
+    doneBy-end r n j 0 (omega arith) (omega (arith, div-add-mod' (r + n - 1) n))
+
+doneBy-short : (r n j d : ℕ) → d + j * n < r → doneBy r (replicate j n) d < r
+unfolding doneBy
+doneBy-short r n zero d h = omega arith
+doneBy-short r n (suc j) d h =
+    let e : d + (j * n + n) < r = rw suc-mul at h in
+    doneBy-short r n j (d + min n (r - d)) (omega arith)
+
+-- fewer leave rounds to do
+pub steps-short : (r n j : ℕ) → 1 ≤ n → j < roundedUp r n → doneBy r (replicate j n) 0 < r
+steps-short r n j h l =
+    let e : suc j * n ≤ roundedUp r n * n = mul-le-mul-right n l in
+    let m : j * n + n ≤ roundedUp r n * n = rw suc-mul at e in
+    doneBy-short r n j 0 (omega (arith, div-add-mod' (r + n - 1) n))
+
+pub helpings-end : (c s : List ℕ) (r n : ℕ) → r ≤ roundsLimit → 1 ≤ n → EndsWithin c s r n
+helpings-end c s r n w h =
+    record {
+      all-done =
+          λ j l. transformation-of-steps c s r w (replicate j n) ∙ ap (after c s r) (steps-end r n j h l);
+      key-then = λ j l. key-at-end c s r w (replicate j n) (steps-end r n j h l);
+      none-before =
+          λ j l. key-too-early c s r w (replicate j n)
+          (λ q. let d = steps-short r n j h l in omega arith);
+    }
+
+-- "R = 0 is at its end from the start"
+pub key-of-no-rounds : (c s : List ℕ) → finished (started c s 0 .next) ≡ record {
+  outcome = Accepted;
+  key = transformedKey c s 0;
+}
+unfolding advances doneBy
+key-of-no-rounds c s = key-at-end c s 0 (omega arith) [] refl

@@ -6,6 +6,7 @@
 --   "starting the rounds checks 11"; "Starting the rounds still checks 11
 --    alone" (document 02, Item 3)                                             start
 --   "a helping of n does the lesser of n and what remains"                    isOpen, remaining, advanced
+--   "Helpings of n, n at least 1, end within R/n rounded up"                  State.EndsWithin
 --   "T before the end is 19; R = 0 is at its end from the start"              finish
 -- A state that is refused, or that no call could have made, has no rounds remaining and is never at its end.
 -- Assumes nothing.
