@@ -11,7 +11,8 @@
 --   document 02, Item 8: "for 2 its length; for 3 the first signature that differs (0
 --    or 4); for 4, 8; for 8 the end field; otherwise the first byte of the field, or
 --    of the dictionary item at fault"                                                     header, judged, identified
--- A walk counts its fields down from the file's length: a field has five bytes or more, so the count never ends it.
+-- A walk counts its fields down from the file's length: a field has five bytes or more, so the count never ends it
+-- (proofs, Laws.Walk, body-count).
 -- A field that is absent has the place 0, where no field's value stands.
 -- Not here: one field (crate fields); dictionaries (crates dictionary and kdf_dictionary); writing (crate
 -- header_writer, Written).

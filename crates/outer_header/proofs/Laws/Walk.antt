@@ -4,12 +4,14 @@
 --   fieldHere-stands    a field that is found, and its value within the file
 --   fieldHere-fits      its size fits the rule of its ID
 --   walk-more           one turn of the walk
+--   walk-enough         the count of fields never ends a walk: any count that reaches the file's end gives the same
+--   body-count          .. so that whatever the file, its length and every larger count give one answer
 --   Placed              values that end before a place, with the sizes that later steps lean on
 --   noFields-placed, put-placed    where no field came yet, and with one more
 --   IsEnded, walk-ends  what a walk up to the end field keeps to
 -- Not here: fields in general (crate fields).
 -- Assumes nothing.
-use mathlib.Core.Path.{_≡_, refl}
+use mathlib.Core.Path.{_≡_, refl, ap}
 use mathlib.Core.Bool.{Bool, true, false, cond}
 use mathlib.Core.List.{List}
 use Prim.Native.Nat.{ℕ, zero, suc, _+_, _-_, _≤_, _<_}
@@ -17,13 +19,14 @@ use native.Mathlib.Omega.{arith}
 use native.Mathlib.Numerals.{sub-one}
 use lib.Dec.{eqb, leb}
 use lib.ListN.{length, getD}
-use borrow.Author.Tests.{eqb-true}
+use borrow.Author.Tests.{eqb-true, lt-leb}
 use Rattle.words.specs.Endian.{le}
 use Rattle.words.specs.Size.{int32}
 use Rattle.words.specs.declared.le.Size.{Size}
 use Rattle.words.specs.declared.le.Size.the-variants.{Of, Negative}
 use Rattle.words.proofs.Laws.Cases.{by-bool}
-use Rattle.fields.specs.Fields.{endOf, fits, valueAt, fieldAt, given}
+use Rattle.refusals.specs.declared.Refusal.the-variants.{CutShort, WrongSize}
+use Rattle.fields.specs.Fields.{endOf, begin, fits, valueAt, fieldAt, given}
 use Rattle.fields.specs.declared.Place.{Place}
 use Rattle.fields.specs.declared.SizeRule.{SizeRule}
 use Rattle.fields.specs.declared.Field.{Field}
@@ -42,6 +45,8 @@ use Rattle.outer_header.specs.Kdbx4Header.{
   endsRight,
   walkIn,
   walk,
+  judgedIn,
+  body,
 }
 
 pub fieldHere-stands : (f : Fields) (s : List ℕ) (at id : ℕ) (p : Place) → fieldHere f s at ≡ field.At id p
@@ -87,6 +92,44 @@ pub walk-more : (k : ℕ) (f : Fields) (s : List ℕ) (at : ℕ) (e : Field) →
 unfolding walk
 walk-more zero f s at e h p = absurd (omega arith)
 walk-more (suc k) f s at e h p = rw (p, sub-one)
+
+-- nothing stands behind the end
+fieldHere-past : (f : Fields) (s : List ℕ) (at : ℕ) → length s ≤ at
+    → fieldHere f s at ≡ field.Refused (CutShort (length s))
+unfolding fieldHere fieldAt
+fieldHere-past f s at h =
+    let l : length s < at + 5 = omega arith in
+    rw (lt-leb (at + 5) (length s) l)
+
+-- two ways on from a field agree: a walk goes on at a field's end alone
+walkIn-agree : (f : Fields) (s : List ℕ) (e : Field) (g h : Fields → ℕ → Walked)
+    → ((id : ℕ) (p : Place) → e ≡ field.At id p → g (put f id p) (endOf p) ≡ h (put f id p) (endOf p))
+    → walkIn f s e g ≡ walkIn f s e h
+unfolding walkIn
+walkIn-agree f s (field.Refused r) g h a = refl
+walkIn-agree f s (field.At id p) g h a =
+    ap (λ (w : Walked). cond (eqb id 0)
+    (cond (endsRight s p) (walked.Ended f (endOf p)) (walked.Refused (WrongSize (begin p)))) w) (a id p refl)
+
+pub walk-enough : (k m : ℕ) (f : Fields) (s : List ℕ) (at : ℕ) → length s ≤ k + at → length s ≤ m + at
+    → walk k f s at ≡ walk m f s at
+unfolding walk walkIn
+walk-enough zero zero f s at h l = refl
+walk-enough zero (suc m) f s at h l =
+    let p : length s ≤ at = omega arith in
+    rw (fieldHere-past f s at p)
+walk-enough (suc k) zero f s at h l =
+    let p : length s ≤ at = omega arith in
+    rw (fieldHere-past f s at p)
+walk-enough (suc k) (suc m) f s at h l =
+    walkIn-agree f s (fieldHere f s at) (λ (g : Fields) (n : ℕ). walk k g s n)
+    (λ (g : Fields) (n : ℕ). walk m g s n)
+    (λ id p e. let w = fieldHere-stands f s at id p e in
+    walk-enough k m (put f id p) s (endOf p) (omega arith) (omega arith))
+
+pub body-count : (s : List ℕ) (minor k : ℕ) → length s ≤ k → body s minor ≡ judgedIn s minor (walk k noFields s 12)
+unfolding body
+body-count s minor k h = ap (judgedIn s minor) (walk-enough (length s) k noFields s 12 (omega arith) (omega arith))
 
 -- the values end before a place; the compression has four bytes there, and a seed has 32
 pub record Placed (f : Fields) (at : ℕ) : Type 0 where
