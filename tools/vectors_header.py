@@ -1,5 +1,7 @@
 #!/usr/bin/env python3
-"""Write what crates/vectors_header reads and must print, and what crates/list reads:   tools/vectors_header.py FIXTURES
+"""Write what crates/vectors_header, list, list_refused and list_too_long read and must print:
+
+    tools/vectors_header.py FIXTURES
 
 FIXTURES is the folder of vaults that other programs wrote, with its manifest.json: who does not have it cannot run this
 script, and needs only the files that it writes. Every expected listing is computed by a model of outer headers
@@ -449,8 +451,15 @@ def main(folder):
     assert len(table) <= 262_144
     (crates / "vectors_header" / "stdin").write_text(table)
     (crates / "vectors_header" / "stdout").write_text(out)
-    (crates / "list" / "stdin").write_bytes(header())
-    (crates / "list" / "stdout").write_text(listing(header())[2])
+    for program, data, expected in (
+        ("list", header().ljust(PROGRAM_LIMIT, b"\0"), 0),
+        ("list_refused", header(f11=rounds(1)), 20),
+        ("list_too_long", header().ljust(PROGRAM_LIMIT + 1, b"\0"), 1),
+    ):
+        no, _, text = listing(data)
+        assert no == expected, program
+        (crates / program / "stdin").write_bytes(data)
+        (crates / program / "stdout").write_text(text)
 
 
 if len(sys.argv) != 2:
