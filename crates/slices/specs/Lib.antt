@@ -1,3 +1,4 @@
 pub mod Cut
 pub mod Over
 pub mod Same
+pub mod Stretch

@@ -1,12 +1,14 @@
 // Slices of bytes: copying into a lent one, comparing two, a part of one, zeroing; and the lesser of two lengths.
 //
-// The contracts cite specs/Over (what stands in a lent slice after a writing) and specs/Same. Every function answers
-// every input: a copy takes as many bytes as there is room for, and slices of two lengths differ.
+// The contracts cite specs/Over (what stands in a lent slice after a writing), specs/Same and specs/Stretch (where a
+// part of a slice lies). Every function answers every input: a copy takes as many bytes as there is room for, and
+// slices of two lengths differ.
 ghost use mathlib.Core.Path.{_≡_};
 ghost use Prim.Native.Nat.{min};
 ghost use lib.ListN.{length, take, drop, replicate};
 ghost use Rattle.slices.specs.Over.{over, putAt};
 ghost use Rattle.slices.specs.Same.{same as sameLists};
+ghost use Rattle.slices.specs.Stretch.{Stretch};
 
 // The lesser of two numbers.
 pub fn least(a: usize, b: usize) -> usize
@@ -56,17 +58,24 @@ pub fn same(a: &[u8], b: &[u8]) -> bool
     d == 0
 }
 
-// So many bytes from a place on, as many of them as there are.
-pub fn part(s: &[u8], start: usize, len: usize) -> &[u8]
-    ensures { λ r. ⌜ now r ≡ take len (drop start (now (s .entry))) ⌝ }
+// So many bytes from a place on, as many of them as there are: a stretch of the slice itself, not a copy elsewhere.
+pub fn stretch(s: &[u8], start: usize, len: usize) -> &[u8]
+    ensures { λ r. ⌜ Stretch (s .entry) start len r ⌝ }
 {
     if s.len() <= start {
-        return &s[0..0];
+        return &s[s.len()..];
     }
     if s.len() - start < len {
         return &s[start..];
     }
     &s[start..start + len]
+}
+
+// The same, for callers that lean on its bytes alone.
+pub fn part(s: &[u8], start: usize, len: usize) -> &[u8]
+    ensures { λ r. ⌜ now r ≡ take len (drop start (now (s .entry))) ⌝ }
+{
+    stretch(s, start, len)
 }
 
 // Sets every byte to zero.
