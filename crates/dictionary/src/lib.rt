@@ -151,8 +151,10 @@ pub fn check(s: &[u8]) -> Verdict
     }
 }
 
-// The item of a name in a dictionary that `check` accepts.
-pub fn search(s: &[u8], name: &[u8]) -> Found
+// The item of a name in a dictionary that `check` accepts, for a caller that has checked it and looks up several names.
+// Nothing is judged here: of any other dictionary it answers what stands before the first broken item, or absent. `find`
+// refuses such a one.
+pub fn search_sound(s: &[u8], name: &[u8]) -> Found
     ensures { λ r. ⌜ r ≡ dictionary.searchFrom (length (now (s .entry))) (now (s .entry)) 2 (now (name .entry)) ⌝ }
 {
     let mut at: usize = 2;
@@ -182,7 +184,7 @@ pub fn find(s: &[u8], name: &[u8]) -> Found
     ensures { λ r. ⌜ r ≡ dictionary.find (now (s .entry)) (now (name .entry)) ⌝ }
 {
     match check(s) {
-        Verdict::Sound => return search(s, name),
+        Verdict::Sound => return search_sound(s, name),
         Verdict::Broken(at) => return Found::Refused(Refusal::BrokenDictionary(at)),
         Verdict::Repeated(at) => return Found::Refused(Refusal::Repeated(at)),
     }

@@ -131,7 +131,7 @@ fn item_of(d: &[u8], name: &[u8], kind: u8) -> Place
         start: 0,
         length: 0,
     };
-    match dictionary::search(d, name) {
+    match dictionary::search_sound(d, name) {
         Found::Refused(_) => return none,
         Found::Absent => return none,
         Found::At {
@@ -151,7 +151,7 @@ fn item_of(d: &[u8], name: &[u8], kind: u8) -> Place
 fn has_item(d: &[u8], name: &[u8]) -> bool
     ensures { λ r. ⌜ r ≡ kdbx4.hasItem (now (d .entry)) (now (name .entry)) ⌝ }
 {
-    match dictionary::search(d, name) {
+    match dictionary::search_sound(d, name) {
         Found::Refused(_) => return false,
         Found::Absent => return false,
         Found::At {
@@ -169,7 +169,7 @@ fn fault_at(d: &[u8], p: Place, name: &[u8]) -> usize
     ensures { λ r. ⌜ r ≡ kdbx4.faultAt (now (d .entry)) p (now (name .entry)) ⌝ }
 {
     let front = 9 + name.len();
-    match dictionary::search(d, name) {
+    match dictionary::search_sound(d, name) {
         Found::Refused(_) => return p.start,
         Found::Absent => return p.start,
         Found::At {

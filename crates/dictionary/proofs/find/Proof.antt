@@ -6,7 +6,7 @@ use Rattle.dictionary.proofs.find.Tie as tie
 
 returns : tie.Need-returns
 unfolding find findIn
-returns c = rw (← c .before .before .before .check .ensures, c .before .enum-told .given .1) (c .search .ensures)
+returns c = rw (← c .before .before .before .check .ensures, c .before .enum-told .given .1) (c .search-sound .ensures)
 
 returns-2 : tie.Need-returns-2
 unfolding find findIn

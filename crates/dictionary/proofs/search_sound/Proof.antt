@@ -1,5 +1,5 @@
--- `dictionary::search` meets its contract. The invariant: the walk from here, over the items left, is the whole walk.
--- Assumes nothing.
+-- `dictionary::search_sound` meets its contract. The invariant: the walk from here, over the items left, is the whole
+-- walk. Assumes nothing.
 use mathlib.Core.Path.{_≡_, refl, sym, _∙_}
 use native.Mathlib.Omega.{arith}
 use denote.Ref.{now}
@@ -8,8 +8,8 @@ use Rattle.dictionary.specs.Dictionary.{searchIn, searchFrom}
 use Rattle.dictionary.proofs.Laws.Entry.{entryAt-within}
 use Rattle.dictionary.proofs.Laws.Walk.{searchFrom-more}
 use borrow.Author.Needs.{needs}
-use Rattle.dictionary.proofs.search.Statement.{statement}
-use Rattle.dictionary.proofs.search.Tie as tie
+use Rattle.dictionary.proofs.search_sound.Statement.{statement}
+use Rattle.dictionary.proofs.search_sound.Tie as tie
 
 abbrev Inv-loop : tie.InvT-loop
 Inv-loop s name at₀ left₀ at left = searchFrom left s at name ≡ searchFrom (length s) s 2 name
@@ -83,8 +83,8 @@ returns-4 : tie.Need-returns-4 Inv-loop μ-loop
 unfolding searchFrom
 returns-4 c = let z : c .before .loop .left ≡ 0 = omega arith in rw (← c .before .loop .inv, z)
 
-pub search-spec : {M : Type 1} → statement M
-search-spec =
+pub search-sound-spec : {M : Type 1} → statement M
+search-sound-spec =
     tie.close
     (tie.spec
     Inv-loop
