@@ -5,6 +5,7 @@
 --   Walk     one turn of each walk
 --   Enough   the count of items never ends a walk
 --   Find     what is found is an item of the name, and where a name is absent none has it
+--   Looked   what a lookup leaves, by what the name is found as
 --   Key      names as numbers
 --   Rising   a rising list of numbers
 --   Insert   a place put into a table
@@ -15,6 +16,7 @@ pub mod Entry
 pub mod Walk
 pub mod Enough
 pub mod Find
+pub mod Looked
 pub mod Key
 pub mod Rising
 pub mod Insert

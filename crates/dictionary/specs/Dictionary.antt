@@ -10,7 +10,7 @@
 --   "Looking up a name in a sound dictionary finds its value .. a broken
 --    one is refused with 10 or 6. A name that isn't there is answered as
 --    absent"                                                              find
---   "shows that stretch of the dictionary itself .. with nothing shown"   shown, lookup
+--   "shows that stretch of the dictionary itself .. with nothing shown"   shown, lookup; where it lies: Lookup
 --   document 02, Item 8: "the first byte .. of the dictionary item at
 --    fault", the second one of a repeated name                            valueAt, nameAt, entryAt, walkIn
 --   "a dictionary fault that belongs to no item points to where the

@@ -2,3 +2,4 @@ pub mod Answers
 pub mod Dictionary
 pub mod Order
 pub mod Repeats
+pub mod Lookup

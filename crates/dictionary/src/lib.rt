@@ -12,6 +12,7 @@ ghost use lib.ListN.{length};
 ghost use Rattle.words.specs.Endian.{le};
 ghost use Rattle.words.specs.Size.{int32};
 ghost use Rattle.dictionary.specs.Dictionary as dictionary;
+ghost use Rattle.dictionary.specs.Lookup.{Looked};
 use refusals::Refusal;
 use repeats::Batch;
 use words::le::Size;
@@ -152,8 +153,8 @@ pub fn check(s: &[u8]) -> Verdict
 }
 
 // The item of a name in a dictionary that `check` accepts, for a caller that has checked it and looks up several names.
-// Nothing is judged here: of any other dictionary it answers what stands before the first broken item, or absent. `find`
-// refuses such a one.
+// Nothing is judged here: of any other dictionary it answers the first item of the name that stands before a broken
+// one, or absent. `find` refuses such a dictionary.
 pub fn search_sound(s: &[u8], name: &[u8]) -> Found
     ensures { λ r. ⌜ r ≡ dictionary.searchFrom (length (now (s .entry))) (now (s .entry)) 2 (now (name .entry)) ⌝ }
 {
@@ -190,17 +191,38 @@ pub fn find(s: &[u8], name: &[u8]) -> Found
     }
 }
 
-// The value of a name, a part of the dictionary itself: empty where `find` answers absent or refused.
-pub fn lookup<'d>(d: &'d [u8], name: &[u8]) -> &'d [u8]
-    ensures { λ r. ⌜ now r ≡ dictionary.lookup (now (d .entry)) (now (name .entry)) ⌝ }
+// The value of a name, shown as that stretch of the dictionary itself; where there is none, nothing is shown. What it
+// is found as is told beside it: document 01's number and the place of a refusal, whether the name is there, and the
+// value's type. So an empty value, a name that is absent and a refusal, of which no byte is shown, differ.
+pub fn lookup<'d>(
+    d: &'d [u8],
+    name: &[u8],
+    number: &mut u8,
+    place: &mut usize,
+    found: &mut bool,
+    kind: &mut u8,
+) -> &'d [u8]
+    ensures { λ r. ⌜ Looked (d .entry) (name .entry) r (now (number .exit)) (now (place .exit)) (now (found .exit)) (now (kind .exit)) ⌝ }
 {
+    *number = 0;
+    *place = 0;
+    *found = false;
+    *kind = 0;
     match find(d, name) {
         Found::At {
-            kind: _,
+            kind: k,
             start,
             length,
-        } => slices::part(d, start, length),
-        Found::Absent => slices::part(d, 0, 0),
-        Found::Refused(_) => slices::part(d, 0, 0),
+        } => {
+            *found = true;
+            *kind = k;
+            return slices::stretch(d, start, length);
+        }
+        Found::Absent => return slices::stretch(d, 0, 0),
+        Found::Refused(r) => {
+            *number = r.number();
+            *place = r.place();
+            return slices::stretch(d, 0, 0);
+        }
     }
 }

@@ -1,21 +1,35 @@
 -- `dictionary::lookup` meets its contract. Assumes nothing.
-use Rattle.dictionary.specs.Dictionary.{shown, lookup}
+use mathlib.Core.Path.{sym, _∙_}
+use Rattle.dictionary.proofs.Laws.Looked.{looked-at, looked-absent, looked-refused}
 use borrow.Author.Needs.{needs}
 use Rattle.dictionary.proofs.lookup.Statement.{statement}
 use Rattle.dictionary.proofs.lookup.Tie as tie
 
 returns : tie.Need-returns
-unfolding lookup shown
 returns c =
-    rw (← c .before .before .before .before .find .ensures, c .before .before .start .given .1) (c .part .ensures)
+    let k = c .before .before in
+    let f = k .before .before in
+    let a = f .before .before .before .args in
+    looked-at (a .d) (a .name) (c .stretch .result) _ _ _ (sym (f .find .ensures) ∙ k .k .given .1)
+    (c .stretch .ensures)
 
 returns-2 : tie.Need-returns-2
-unfolding lookup shown
-returns-2 c = rw (← c .before .before .before .find .ensures, c .before .enum-told .given .1) (c .part2 .ensures)
+returns-2 c =
+    let k = c .before in
+    let f = k .before .before in
+    let a = f .before .before .before .args in
+    looked-absent (a .d) (a .name) (c .stretch2 .result) (sym (f .find .ensures) ∙ k .enum-told .given .1)
+    (c .stretch2 .ensures)
 
 returns-3 : tie.Need-returns-3
-unfolding lookup shown
-returns-3 c = rw (← c .before .before .before .find .ensures, c .before .enum-told2 .given .1) (c .part3 .ensures)
+returns-3 c =
+    let p = c .before in
+    let n = p .before in
+    let k = n .before .before in
+    let f = k .before .before in
+    let a = f .before .before .before .args in
+    looked-refused (a .d) (a .name) (c .stretch3 .result) _ (sym (f .find .ensures) ∙ k .r .given .1)
+    (n .number .ensures) (p .place .ensures) (c .stretch3 .ensures)
 
 pub lookup-spec : {M : Type 1} → statement M
 lookup-spec =
@@ -24,10 +38,12 @@ lookup-spec =
     (λ c κs. search needs)
     (λ c. search needs)
     (λ c κs. search needs)
-    (λ c. search needs)
-    (λ c κs. search needs)
-    (λ c. search needs)
-    (λ c κs. search needs)
     returns
+    (λ c. search needs)
+    (λ c κs. search needs)
     returns-2
+    (λ c. search needs)
+    (λ c κs. search needs)
+    (λ c κs. search needs)
+    (λ c κs. search needs)
     returns-3)
