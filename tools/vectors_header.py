@@ -8,13 +8,14 @@ script, and needs only the files that it writes. Every expected listing is compu
 (header_model.py), which follows the requirements' pages and shares no code with the library. The refusal's number of
 each damaged header is also told beside the case, by hand, and compared with what the model says, but for those of
 `changed` and of other programs' vaults; the places of `field_places`, `kdf_places`, `argon2_places`, `repeated_places`
-and `custom_places` are too.
+and `custom_places` are too. What a name is looked up as is told by the model's list of a dictionary's items.
 """
 import pathlib
 import sys
 
 from header_model import (
     AES, AES_KDF, ARGON2D, ARGON2ID, CHACHA20, END, ITEM_SIZES, SIGNATURES, TWOFISH, Refused, number, read_header,
+    sound_items,
 )
 from vaults import text_field, vaults
 
@@ -429,6 +430,40 @@ def written(cases, folder):
         cases.case(vault.name, data, listing(data)[0])
 
 
+def looked(d, name):
+    """What is told of a name in a dictionary: its number, and the line of the program."""
+    try:
+        kind, value, _ = sound_items(d).get(name, (None, b"", 0))
+    except Refused as r:
+        return r.no, f"none place {r.place} {r.no} \n"
+    return 0, "none place 0 0 \n" if kind is None else f"found type {kind} 0 {value.hex()}\n"
+
+
+def lookups():
+    """Names looked up in dictionaries: name, dictionary, name in it, text."""
+    text, empty, unnamed = item(0x18, b"text", b"on"), item(0x42, b"empty", b""), item(0x08, b"", b"\x01")
+    sound = dictionary(text, empty, unnamed)
+    cases = []
+    for name, d, key, expected, said in (
+        ("text", sound, b"text", 0, "found type 24 0 6f6e\n"),
+        ("empty-value", sound, b"empty", 0, "found type 66 0 \n"),
+        ("empty-name", sound, b"", 0, "found type 8 0 01\n"),
+        ("absent", sound, b"tex", 0, "none place 0 0 \n"),
+        ("absent-longer", sound, b"text2", 0, "none place 0 0 \n"),
+        ("absent-in-the-least", dictionary(), b"", 0, "none place 0 0 \n"),
+        ("name-is-another-value", sound, b"on", 0, "none place 0 0 \n"),
+        ("broken-behind-the-name", dictionary(text, item(0x01, b"x", b"")), b"text", 10, None),
+        ("broken-and-absent", dictionary(text, end=b""), b"x", 10, "none place 0 10 \n"),
+        ("repeated-name", dictionary(text, empty, text), b"text", 6, None),
+        ("repeated-other-name", dictionary(empty, text, empty), b"text", 6, None),
+        ("empty-dictionary", b"", b"", 10, "none place 0 10 \n"),
+    ):
+        no, line = looked(d, key)
+        assert no == expected and said in (None, line), (name, no, line)
+        cases.append((f"lookup-{name}", d, key, line))
+    return cases
+
+
 def main(folder):
     crates = pathlib.Path(__file__).parent.parent / "crates"
     cases = Cases()
@@ -444,10 +479,12 @@ def main(folder):
         places(cases)
     changed(cases)
     written(cases, folder)
-    names = [name for name, _, _, _ in cases]
+    found = lookups()
+    names = [name for name, _, _, _ in [*cases, *found]]
     assert len(names) == len(set(names))
     table = "".join(f"{name} {text_field(data)} {length}\n" for name, data, length, _ in cases)
-    out = "".join(f"{name}\n{text}" for name, _, _, text in cases)
+    table += "".join(f"{name} {text_field(d)} {len(d)} {text_field(key)}\n" for name, d, key, _ in found)
+    out = "".join(f"{name}\n{text}" for name, _, _, text in [*cases, *found])
     assert len(table) <= 262_144
     (crates / "vectors_header" / "stdin").write_text(table)
     (crates / "vectors_header" / "stdout").write_text(out)

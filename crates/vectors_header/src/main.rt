@@ -1,9 +1,10 @@
 // The listing of outer headers: those that other programs wrote, and damaged ones for each refusal and for the order of
-// the checks.
+// the checks. And names that are looked up in dictionaries.
 //
 // Standard input has a line for each case: its name, the first bytes of a file, and the file's length, up to which
-// zeros follow. Standard output has for each case its name and what `listing::list` writes. tools/vectors_header.py
-// writes both, by a reader of its own.
+// zeros follow; or its name, a dictionary, the dictionary's length, and a name in it. Standard output has for each case
+// its name and what `listing::list` writes, or what `dictionary::lookup` tells. tools/vectors_header.py writes both, by
+// a reader of its own.
 ghost use mathlib.Core.Path.{_≡_};
 ghost use lib.ListN.{length};
 use libc::STDIN_FILENO;
@@ -44,8 +45,45 @@ fn lines(s: &[u8], text: &mut [u8]) {
     let mut at: usize = 0;
     while at < s.len() {
         let end = vectors::table::find(s, at, b'\n');
-        listed(&s[at..end], text);
+        answer(&s[at..end], text);
         at = end + 1;
+    }
+}
+
+// The answer to a line, by whether it has a name to look up.
+fn answer(line: &[u8], text: &mut [u8]) {
+    if vectors::table::is_given(field(line, 3)) {
+        looked(line);
+    } else {
+        listed(line, text);
+    }
+}
+
+// The name of a line's case, and what is told of a name in its dictionary: `found`, the value's type, and the stretch
+// that is shown; or `none`, and the place of a refusal. The number stands behind the type or place.
+fn looked(line: &[u8]) {
+    let mut space = io::buffer();
+    let n = vectors::table::bytes(field(line, 1), &mut space);
+    let mut names = [0u8; 32];
+    let m = vectors::table::bytes(field(line, 3), &mut names);
+    let mut number: u8 = 255;
+    let mut place: usize = 255;
+    let mut found = true;
+    let mut kind: u8 = 255;
+    let value = dictionary::lookup(
+        vectors::first(&space, n),
+        vectors::first(&names, m),
+        &mut number,
+        &mut place,
+        &mut found,
+        &mut kind,
+    );
+    io::write_all(STDOUT_FILENO, field(line, 0));
+    io::write_all(STDOUT_FILENO, b"\n");
+    if found {
+        vectors::row(b"found", b"type", kind as usize, number, value);
+    } else {
+        vectors::row(b"none", b"place", place, number, value);
     }
 }
 
