@@ -2,8 +2,8 @@
 //
 // The contracts cite specs/Rfc9106, and specs/Order for the code's steps. `permute` takes R to Z in place; who fills
 // memory (the crate argon2_fill) makes R of two blocks and stores the exclusive or of Z and R. Nothing is refused. No
-// branch and no index depends on the words. An `ensures` that asks for 128 words asks nothing of an array: the proofs
-// know no length of what lies behind a reference, and the owner of the array does.
+// index depends on the words; of branches see docs/PROMISES.md, "Not claimed". An `ensures` that asks for 128 words asks
+// nothing of an array: the proofs know no length of what lies behind a reference, and the owner of the array does.
 ghost use mathlib.Core.Path.{_≡_};
 ghost use Prim.Native.Nat.{_+_, _*_, _%_, _^_, _≤_, _<_};
 ghost use lib.Bits.{bitXor};

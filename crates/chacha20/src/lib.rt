@@ -2,7 +2,8 @@
 //
 // `ChaCha20::apply` starts at any byte of the stream, so the blocks of a vault are taken one after the other without
 // restarting it. Its contract cites the crate stream's `apply` over RFC 8439's block function. The counter is a word of
-// 32 bits: behind 2^38 bytes, which no vault has, the stream begins again. No branch and no index depends on the key.
+// 32 bits: behind 2^38 bytes, which no vault has, the stream begins again. No index depends on the key; of branches see
+// docs/PROMISES.md, "Not claimed".
 ghost use mathlib.Core.Path.{_≡_};
 ghost use Rattle.stream.specs.Stream as stream;
 ghost use Rattle.chacha20.specs.Rfc8439 as rfc8439;

@@ -2,7 +2,8 @@
 // bits that starts at 0.
 //
 // `Salsa20::apply` starts at any byte of the stream, so that a stretch goes on where the last one ended. Its contract
-// cites the crate stream's `apply` over the specification's block function. No branch and no index depends on the key.
+// cites the crate stream's `apply` over the specification's block function. No index depends on the key; of branches see
+// docs/PROMISES.md, "Not claimed".
 ghost use mathlib.Core.Path.{_≡_};
 ghost use Rattle.stream.specs.Stream as stream;
 ghost use Rattle.salsa20.specs.Salsa20 as salsa20;
