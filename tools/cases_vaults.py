@@ -174,6 +174,14 @@ def made_steps(cases):
     step_case(cases, "file cut behind its block", five, [99] * 3, [step(b""), step(a), step(b)],
               file_lengths={"0": n - 36 - 27 - 36, "1": n - 36})
     at = len(front(AES))
+    # (blocks, place, ciphertext taken) that no call leaves: 19, and the state stays, so that the right numbers go on
+    for name, numbers in (
+        ("five blocks and no ciphertext", (5, at + 41, 0)), ("more blocks than bytes", (6, at + 41, 5)),
+        ("ciphertext and no block", (0, at + 41, 5)), ("no room before the place", (1, 40, 5)),
+        ("a place over the limit", (1, FILE_LIMIT + 1, 5)),
+    ):
+        step_case(cases, f"state: {name}", five, [99] * 4, [step(b""), no_step(19), no_step(19), step(a)],
+                  numbers={"1": numbers, "3": (1, at + 41, 5)})
     step_case(cases, "second block's tag", flipped(five, at + 41), [99] * 3, [step(b""), no_step(14), no_step(19)])
     step_case(cases, "byte behind", five + b"\0", [99] * 4, [step(b""), step(a), no_step(15), no_step(19)])
     step_case(cases, "padding", sealed(AES, cbc(bytes(32)), 32), [99] * 3, [step(bytes(16)), no_step(16), no_step(19)])

@@ -22,7 +22,8 @@
  *   hash         alg, parts [bytes, ..]                         feeds [no, ..], digest
  *   tag          key, data                                      tag
  *   open         data, T, lent                                  length, payload
- *   steps        data, T, lents [n, ..], file_lengths {"k": n}  steps [{no, count, bytes}, ..]
+ *   steps        data, T, lents [n, ..], file_lengths {"k": n}, steps [{no, count, bytes}, ..]
+ *                numbers {"k": [blocks, place, taken]}
  *   write        minor, cipher, seed, nonce, kdf, custom, T,    length, file
  *                data, lent
  *   inner        data                                           alg, key_span, doc_start,

@@ -35,6 +35,19 @@ static slice file_of_step(request *q, slice file, const json_value *lengths, uin
     return length ? lend_input(q, file, value_number(q, length, "file_lengths", UINT64_MAX)) : file;
 }
 
+/* Before step k the state's numbers are those in `numbers`, if it has them: blocks, place and ciphertext taken, in eight
+ * bytes each behind the mark and the cipher (crate states, specs/OpenerState). No call leaves such a state, a fault may. */
+static void set_numbers(request *q, uint8_t *state, const json_value *numbers, uint64_t k) {
+    char name[24];
+    snprintf(name, sizeof name, "%" PRIu64, k);
+    const json_value *set = numbers ? field_find(numbers, name) : NULL;
+    uint8_t *at = state + 2;
+    for (const json_value *number = set ? set->first : NULL; number && at < state + 26; number = number->next) {
+        uint64_t left = value_number(q, number, "numbers", UINT64_MAX);
+        for (int i = 0; i < 8; i++, left >>= 8) *at++ = (uint8_t)left;
+    }
+}
+
 /* One step. After a refusal nothing is handed over; after 17 and 19 the state too is to be as it was. */
 static void answer_step(request *q, uint8_t *state, slice file, size_t room) {
     uint8_t before[KDBX4_OPENER_STATE], *out = lend(q, room);
@@ -60,6 +73,7 @@ void op_steps(request *q) {
     const uint8_t *t = field_array_of(q, q->asked, "T", 32);
     const json_value *lents = field_array(q, "lents");
     const json_value *lengths = field_find(q->asked, "file_lengths") ? field_object(q, "file_lengths") : NULL;
+    const json_value *numbers = field_find(q->asked, "numbers") ? field_object(q, "numbers") : NULL;
     uint8_t *state = lend(q, KDBX4_OPENER_STATE);
     size_t *place = lend(q, sizeof *place);
     uint64_t k = 0;
@@ -70,6 +84,7 @@ void op_steps(request *q) {
     for (const json_value *lent = lents->first; lent; lent = lent->next, k++) {
         const struct block *last = q->blocks;
         slice handed = file_of_step(q, file, lengths, k);
+        set_numbers(q, state, numbers, k);
         answer_step(q, state, handed, lent_within(value_number(q, lent, "lents", UINT64_MAX), enough_to_open(handed)));
         request_free(q, last);
     }
