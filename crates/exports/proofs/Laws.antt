@@ -24,7 +24,8 @@ use Rattle.refusals.specs.declared.Written.{Written}
 use Rattle.refusals.specs.declared.Written.the-variants as written
 use Rattle.argon2.specs.Rfc9106.{Inputs, tag}
 use Rattle.argon2.specs.Run.{transformed}
-use Rattle.exports.specs.Lent.{resultOr, figuresOr, countOr, keptOr, keptUnless}
+use Rattle.calls.specs.Calls.{resultOr, keptOr, keptUnless}
+use Rattle.exports.specs.Lent.{figuresOr, countOr}
 
 pub answer-accepted : {o p : Outcome} {x y : List ℕ} (had : List ℕ) → o ≡ p → x ≡ y → o ≡ Accepted
     → (0 ≡ ofOutcome p) × (x ≡ resultOr p y had)

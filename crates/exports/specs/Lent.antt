@@ -1,7 +1,6 @@
 -- What an exported function leaves in the memory that it is lent. Document 01, "Refusal numbers": "A refusal … changes
 -- no lent byte".
 --
---   resultOr      a result, where the operation accepts
 --   figuresOr     figures, where their answer's number is 0
 --   headerPlace, .. outcomePlace    the place of a refusal, 0 where there is none (document 02, Item 8)
 --   verdictOutcome    what a lone dictionary's check answers
@@ -9,11 +8,8 @@
 --   argon2Kind    the kind of Argon2 that a number of C stands for; argon2Outcome: 9 where it stands for none
 --   chosen        the KDF that a number of C and figures stand for; answerBy, bytesBy: a writing with it
 --   countOr       a number of bytes, where the operation wrote them
---   stepped       a step from the state that 410 bytes stand for
---   keptOr        the bytes of the state after it, by its number; stateOr
---   streamed      a stretch of the inner stream that 53 bytes stand for; streamedBytes; streamOr: the bytes of the
---                 state after it
 --   credential    the credential that a slice and a flag of C stand for
+-- Not here: what the calls on a lent state leave, and resultOr (crate calls, Calls).
 -- Assumes nothing.
 use mathlib.Core.Bool.{cond, not, _||_}
 use mathlib.Core.List.{List, [], _∷_}
@@ -25,11 +21,9 @@ use Rattle.refusals.specs.declared.Outcome.{Outcome}
 use Rattle.refusals.specs.declared.Outcome.the-variants.{Accepted, Refused}
 use Rattle.refusals.specs.declared.Written.{Written}
 use Rattle.refusals.specs.declared.Written.the-variants as written
-use Rattle.refusals.specs.Numbers.{placeOf, ofWritten}
+use Rattle.refusals.specs.Numbers.{placeOf}
 use Rattle.sha256.specs.State as sha256State
-use Rattle.sha256.specs.declared.Fed.{Fed as Fed256}
 use Rattle.sha512.specs.State as sha512State
-use Rattle.sha512.specs.declared.Fed.{Fed as Fed512}
 use Rattle.hmac.specs.State as hmacState
 use Rattle.keys.specs.Kdbx4Keys as keys
 use Rattle.aes_kdf.specs.AesKdf as kdf
@@ -54,35 +48,15 @@ use Rattle.inner_header.specs.declared.Read.the-variants as inner
 use Rattle.inner_header.specs.declared.Attachment.{Attachment}
 use Rattle.inner_header.specs.declared.Attachment.the-variants as attached
 use Rattle.inner_header.specs.Answers as innerAnswers
-use Rattle.opening.specs.declared.Opener.{Opener}
-use Rattle.opening.specs.Runs.{Reply}
-use Rattle.opening.specs.Steps.{stepOf}
-use Rattle.states.specs.Sha256State as sha256Bytes
-use Rattle.states.specs.Sha512State as sha512Bytes
-use Rattle.inner_stream.specs.State as innerStream
-use Rattle.inner_stream.specs.declared.Applied.{Applied}
-use Rattle.states.specs.OpenerState as openerBytes
-use Rattle.states.specs.InnerStreamState as streamBytes
+use Rattle.calls.specs.Calls.{resultOr}
 use Rattle.exports.specs.declared.vaults.Chosen.{Chosen}
 use Rattle.exports.specs.declared.vaults.Chosen.the-variants as chosenAs
-
--- the result where the operation accepts, and the bytes that the array had where it refuses
-abbrev pub resultOr : Outcome → List ℕ → List ℕ → List ℕ
-resultOr Accepted result had = result
-resultOr (Refused r) result had = had
 
 abbrev pub sha256 : List ℕ → List ℕ → List ℕ
 sha256 m had = resultOr (sha256State.hashed m .outcome) (sha256State.hashed m .digest) had
 
 abbrev pub sha512 : List ℕ → List ℕ → List ℕ
 sha512 m had = resultOr (sha512State.hashed m .outcome) (sha512State.hashed m .digest) had
-
--- the bytes of the state after a feed
-abbrev pub sha256Fed : Fed256 → List ℕ → List ℕ
-sha256Fed fed had = resultOr (fed .outcome) (sha256Bytes.packed (fed .next)) had
-
-abbrev pub sha512Fed : Fed512 → List ℕ → List ℕ
-sha512Fed fed had = resultOr (fed .outcome) (sha512Bytes.packed (fed .next)) had
 
 abbrev pub hmacSha256 : List ℕ → List ℕ → List ℕ → List ℕ
 hmacSha256 k m had = resultOr (hmacState.tagged k m .outcome) (hmacState.tagged k m .tag) had
@@ -172,32 +146,6 @@ attachmentOr a had = figuresOr (innerAnswers.attachmentNumber a) (innerAnswers.a
 abbrev pub countOr : Written → ℕ → ℕ
 countOr (written.Wrote n) had = n
 countOr (written.Refused r) had = had
-
--- a step from the state that the bytes stand for, over a file, with so many bytes lent
-abbrev pub stepped : List ℕ → List ℕ → ℕ → Reply Opener
-stepped bytes file room = stepOf file (openerBytes.unpacked bytes) room
-
--- "A state handed back with .. 17 or 19 is as it was": its very bytes
-abbrev pub keptOr : ℕ → List ℕ → List ℕ → List ℕ
-keptOr number next had = cond (eqb number 17) had (cond (eqb number 19) had next)
-
-abbrev pub stateOr : Reply Opener → List ℕ → List ℕ
-stateOr q had = keptOr (ofWritten (q .answer .written)) (openerBytes.packed (q .next)) had
-
--- a stretch of the inner stream that the bytes stand for, with so many bytes lent
-abbrev pub streamed : List ℕ → List ℕ → ℕ → Applied
-streamed bytes s room = innerStream.applied (streamBytes.unpacked bytes) s room
-
-abbrev pub streamedBytes : List ℕ → List ℕ → ℕ → List ℕ
-streamedBytes bytes s room = innerStream.handed (streamBytes.unpacked bytes) s room
-
--- a refused stretch leaves the state as it was: its very bytes
-abbrev pub keptUnless : Written → List ℕ → List ℕ → List ℕ
-keptUnless (written.Wrote n) next had = next
-keptUnless (written.Refused r) next had = had
-
-abbrev pub streamOr : Applied → List ℕ → List ℕ
-streamOr a had = keptUnless (a .written) (streamBytes.packed (a .next)) had
 
 -- given where the flag is not 0
 abbrev pub credential : ℕ → List ℕ → keys.Credential

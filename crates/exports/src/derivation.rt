@@ -11,6 +11,7 @@ ghost use Rattle.aes_kdf.specs.AesKdf as kdf;
 ghost use Rattle.aes_kdf.specs.State as transformation;
 ghost use Rattle.states.specs.AesKdfState as kdfState;
 ghost use Rattle.keys.specs.Kdbx4Keys as kdbx4;
+ghost use Rattle.calls.specs.Calls as calls;
 ghost use Rattle.exports.specs.Lent as lent;
 use aes_kdf::Transformation;
 use argon2::Kind;
@@ -154,7 +155,7 @@ fn run_argon2(
 ) -> u8
     ensures { λ r. ⌜ r ≡ numbers.ofOutcome (argon2.outcome (argon2.vaultInputs kind (now (composite .entry)) (now (salt .entry)) passes memory lanes) memory (length (now (words .entry)))) ⌝ }
     ensures { λ _. ⌜ now (words .exit) ≡ argon2.left (argon2.outcome (argon2.vaultInputs kind (now (composite .entry)) (now (salt .entry)) passes memory lanes) memory (length (now (words .entry)))) (argon2.vaultInputs kind (now (composite .entry)) (now (salt .entry)) passes memory lanes) (now (words .entry)) ⌝ }
-    ensures { λ _. ⌜ now (out .exit) ≡ lent.resultOr (argon2.outcome (argon2.vaultInputs kind (now (composite .entry)) (now (salt .entry)) passes memory lanes) memory (length (now (words .entry)))) (argon2.transformedKey kind (now (composite .entry)) (now (salt .entry)) passes memory lanes) (now (out .entry)) ⌝ }
+    ensures { λ _. ⌜ now (out .exit) ≡ calls.resultOr (argon2.outcome (argon2.vaultInputs kind (now (composite .entry)) (now (salt .entry)) passes memory lanes) memory (length (now (words .entry)))) (argon2.transformedKey kind (now (composite .entry)) (now (salt .entry)) passes memory lanes) (now (out .entry)) ⌝ }
 {
     let c = *composite;
     let transformed = argon2::transform(kind, c, salt, passes, memory, lanes, words);
@@ -182,7 +183,7 @@ pub extern "C" fn kdbx4_argon2(
 ) -> u8
     ensures { λ r. ⌜ r ≡ numbers.ofOutcome (lent.argon2Outcome kdf (lent.argon2Inputs kdf (now (composite .entry)) (now (salt .entry)) passes memory lanes) memory (length (now (words .entry)))) ⌝ }
     ensures { λ _. ⌜ now (words .exit) ≡ argon2.left (lent.argon2Outcome kdf (lent.argon2Inputs kdf (now (composite .entry)) (now (salt .entry)) passes memory lanes) memory (length (now (words .entry)))) (lent.argon2Inputs kdf (now (composite .entry)) (now (salt .entry)) passes memory lanes) (now (words .entry)) ⌝ }
-    ensures { λ _. ⌜ now (out .exit) ≡ lent.resultOr (lent.argon2Outcome kdf (lent.argon2Inputs kdf (now (composite .entry)) (now (salt .entry)) passes memory lanes) memory (length (now (words .entry)))) (argon2.transformedKey (lent.argon2Kind kdf) (now (composite .entry)) (now (salt .entry)) passes memory lanes) (now (out .entry)) ⌝ }
+    ensures { λ _. ⌜ now (out .exit) ≡ calls.resultOr (lent.argon2Outcome kdf (lent.argon2Inputs kdf (now (composite .entry)) (now (salt .entry)) passes memory lanes) memory (length (now (words .entry)))) (argon2.transformedKey (lent.argon2Kind kdf) (now (composite .entry)) (now (salt .entry)) passes memory lanes) (now (out .entry)) ⌝ }
 {
     if kdf == 1 {
         return run_argon2(

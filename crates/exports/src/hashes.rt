@@ -1,6 +1,6 @@
 // Hashes (FIPS 180-4) and tags (RFC 2104): of whole messages, and hashes in parts over a state that is lent as bytes.
-// The contracts cite the definitions of crates sha256, sha512 and hmac, and of crate states. Refusal: 1, with the state
-// as it was.
+// The contracts cite the definitions of crates sha256, sha512 and hmac, and of crates states and calls. Refusal: 1,
+// with the state as it was.
 ghost use mathlib.Core.Path.{_≡_};
 ghost use Rattle.refusals.specs.Numbers as numbers;
 ghost use Rattle.sha256.specs.State as sha256;
@@ -8,6 +8,7 @@ ghost use Rattle.sha512.specs.State as sha512;
 ghost use Rattle.hmac.specs.State as hmac;
 ghost use Rattle.states.specs.Sha256State as sha256State;
 ghost use Rattle.states.specs.Sha512State as sha512State;
+ghost use Rattle.calls.specs.Calls as calls;
 ghost use Rattle.exports.specs.Lent as lent;
 use refusals::Outcome;
 use sha256::Sha256;
@@ -75,7 +76,7 @@ pub extern "C" fn kdbx4_sha256_start(state: &mut [u8; 100])
 #[no_mangle]
 pub extern "C" fn kdbx4_sha256_feed(state: &mut [u8; 100], part: &[u8]) -> u8
     ensures { λ r. ⌜ r ≡ numbers.ofOutcome (sha256.fed (sha256State.unpacked (now (state .entry))) (now (part .entry)) .outcome) ⌝ }
-    ensures { λ _. ⌜ now (state .exit) ≡ lent.sha256Fed (sha256.fed (sha256State.unpacked (now (state .entry))) (now (part .entry))) (now (state .entry)) ⌝ }
+    ensures { λ _. ⌜ now (state .exit) ≡ calls.sha256Fed (sha256.fed (sha256State.unpacked (now (state .entry))) (now (part .entry))) (now (state .entry)) ⌝ }
 {
     let bytes = *state;
     let fed = sha256_state::unpack(bytes).feed(part);
@@ -109,7 +110,7 @@ pub extern "C" fn kdbx4_sha512_start(state: &mut [u8; 196])
 #[no_mangle]
 pub extern "C" fn kdbx4_sha512_feed(state: &mut [u8; 196], part: &[u8]) -> u8
     ensures { λ r. ⌜ r ≡ numbers.ofOutcome (sha512.fed (sha512State.unpacked (now (state .entry))) (now (part .entry)) .outcome) ⌝ }
-    ensures { λ _. ⌜ now (state .exit) ≡ lent.sha512Fed (sha512.fed (sha512State.unpacked (now (state .entry))) (now (part .entry))) (now (state .entry)) ⌝ }
+    ensures { λ _. ⌜ now (state .exit) ≡ calls.sha512Fed (sha512.fed (sha512State.unpacked (now (state .entry))) (now (part .entry))) (now (state .entry)) ⌝ }
 {
     let bytes = *state;
     let fed = sha512_state::unpack(bytes).feed(part);

@@ -13,7 +13,7 @@
 // answers document 01's number: 0 is success, and a refusal changes no lent byte but a reader's place (document 02, Item
 // 8), which is 0 on success. Figures are lent as an array of numbers. A state is lent as an array of bytes, which crate
 // states reads and writes. The contracts cite the operations' own definitions; specs/Lent says what is left in lent
-// memory.
+// memory, and crate calls' specs/Calls what is left of a lent state; what lists of calls come to is proved there.
 mod derivation;
 mod dictionaries;
 mod encryption;

@@ -1,6 +1,6 @@
 // The inner stream (document 02, Item 1): a stretch straight from the inner key, and a state of 53 bytes that carries
-// over from one stretch to the next. The contracts cite crate inner_stream's specs/InnerStream and specs/State. Refusals:
-// 9, 1, 17; of a start 9, 1; of a stretch of a state 19, 1, 17.
+// over from one stretch to the next. The contracts cite crate inner_stream's specs/InnerStream and specs/State, and
+// crate calls' specs/Calls. Refusals: 9, 1, 17; of a start 9, 1; of a stretch of a state 19, 1, 17.
 ghost use mathlib.Core.Path.{_≡_};
 ghost use lib.ListN.{length};
 ghost use Rattle.refusals.specs.Numbers as numbers;
@@ -8,6 +8,7 @@ ghost use Rattle.slices.specs.Over.{over};
 ghost use Rattle.inner_stream.specs.InnerStream as inner;
 ghost use Rattle.inner_stream.specs.State as stream;
 ghost use Rattle.states.specs.InnerStreamState as streamBytes;
+ghost use Rattle.calls.specs.Calls as calls;
 ghost use Rattle.exports.specs.Lent as lent;
 use inner_stream::InnerStream;
 use refusals::Written;
@@ -58,10 +59,10 @@ pub extern "C" fn kdbx4_inner_stream_apply(
     out: &mut [u8],
     count: &mut usize,
 ) -> u8
-    ensures { λ r. ⌜ r ≡ numbers.ofWritten (lent.streamed (now (state .entry)) (now (bytes .entry)) (length (now (out .entry))) .written) ⌝ }
-    ensures { λ _. ⌜ now (state .exit) ≡ lent.streamOr (lent.streamed (now (state .entry)) (now (bytes .entry)) (length (now (out .entry)))) (now (state .entry)) ⌝ }
-    ensures { λ _. ⌜ now (out .exit) ≡ over (lent.streamedBytes (now (state .entry)) (now (bytes .entry)) (length (now (out .entry)))) (now (out .entry)) ⌝ }
-    ensures { λ _. ⌜ now (count .exit) ≡ lent.countOr (lent.streamed (now (state .entry)) (now (bytes .entry)) (length (now (out .entry))) .written) (now (count .entry)) ⌝ }
+    ensures { λ r. ⌜ r ≡ numbers.ofWritten (calls.streamed (now (state .entry)) (now (bytes .entry)) (length (now (out .entry))) .written) ⌝ }
+    ensures { λ _. ⌜ now (state .exit) ≡ calls.streamOr (calls.streamed (now (state .entry)) (now (bytes .entry)) (length (now (out .entry)))) (now (state .entry)) ⌝ }
+    ensures { λ _. ⌜ now (out .exit) ≡ over (calls.streamedBytes (now (state .entry)) (now (bytes .entry)) (length (now (out .entry)))) (now (out .entry)) ⌝ }
+    ensures { λ _. ⌜ now (count .exit) ≡ lent.countOr (calls.streamed (now (state .entry)) (now (bytes .entry)) (length (now (out .entry))) .written) (now (count .entry)) ⌝ }
 {
     let held = *state;
     let s = inner_stream_state::unpack(held);

@@ -1,7 +1,7 @@
 // Vaults under the transformed key T (document 01, "File after the header"): opening whole, and block by block over a
-// state that is lent as bytes; writing. The contracts cite the definitions of crates vault, opening, states and writer.
-// Refusals: of opening 1 to 17, 20 and 22, of the start 1 to 13, 20 and 22, of a step 19, 1, 2, 5, 14 to 17, of writing
-// 4, 9, 5, 11 and 20 or 22, 10 or 6, 1, 17.
+// state that is lent as bytes; writing. The contracts cite the definitions of crates vault, opening, states, calls and
+// writer. Refusals: of opening 1 to 17, 20 and 22, of the start 1 to 13, 20 and 22, of a step 19, 1, 2, 5, 14 to 17, of
+// writing 4, 9, 5, 11 and 20 or 22, 10 or 6, 1, 17.
 ghost use mathlib.Core.Path.{_≡_};
 ghost use lib.ListN.{length};
 ghost use Rattle.refusals.specs.Numbers as numbers;
@@ -10,6 +10,7 @@ ghost use Rattle.opening.specs.Whole as whole;
 ghost use Rattle.vault.specs.Vault as vault;
 ghost use Rattle.states.specs.OpenerState as openerState;
 ghost use Rattle.writer.specs.Written as kdbx4;
+ghost use Rattle.calls.specs.Calls as calls;
 ghost use Rattle.exports.specs.Lent as lent;
 use kdf_dictionary::writer::Figures;
 use refusals::Outcome;
@@ -94,10 +95,10 @@ pub extern "C" fn kdbx4_step(
     out: &mut [u8],
     count: &mut usize,
 ) -> u8
-    ensures { λ r. ⌜ r ≡ numbers.ofWritten (lent.stepped (now (state .entry)) (now (file .entry)) (length (now (out .entry))) .answer .written) ⌝ }
-    ensures { λ _. ⌜ now (state .exit) ≡ lent.stateOr (lent.stepped (now (state .entry)) (now (file .entry)) (length (now (out .entry)))) (now (state .entry)) ⌝ }
-    ensures { λ _. ⌜ now (out .exit) ≡ over (lent.stepped (now (state .entry)) (now (file .entry)) (length (now (out .entry))) .answer .bytes) (now (out .entry)) ⌝ }
-    ensures { λ _. ⌜ now (count .exit) ≡ lent.countOr (lent.stepped (now (state .entry)) (now (file .entry)) (length (now (out .entry))) .answer .written) (now (count .entry)) ⌝ }
+    ensures { λ r. ⌜ r ≡ numbers.ofWritten (calls.stepped (now (state .entry)) (now (file .entry)) (length (now (out .entry))) .answer .written) ⌝ }
+    ensures { λ _. ⌜ now (state .exit) ≡ calls.stateOr (calls.stepped (now (state .entry)) (now (file .entry)) (length (now (out .entry)))) (now (state .entry)) ⌝ }
+    ensures { λ _. ⌜ now (out .exit) ≡ over (calls.stepped (now (state .entry)) (now (file .entry)) (length (now (out .entry))) .answer .bytes) (now (out .entry)) ⌝ }
+    ensures { λ _. ⌜ now (count .exit) ≡ lent.countOr (calls.stepped (now (state .entry)) (now (file .entry)) (length (now (out .entry))) .answer .written) (now (count .entry)) ⌝ }
 {
     let bytes = *state;
     let o = opener_state::unpack(bytes);
