@@ -1,7 +1,15 @@
 -- Document 01, "Refusal numbers": the number of each refusal. 0 is success. Document 02, Items 3 and 6: 20 and 22;
 -- Item 8: the place.
+--
+--   ofRefusal, placeOf, unplaced    a refusal: its number, its place, and itself without it
+--   ofOutcome, placeOfOutcome       an outcome
+--   ofWritten, placeOfWritten       a writing; countOf: how many bytes were written
+--   Said, success, refused          what an answer says in these terms: a number, a place and values
+-- Not here: what each answer of another crate says (its own Answers).
 -- Assumes nothing.
+use mathlib.Core.List.{List, [], _∷_}
 use Prim.Native.Nat.{ℕ}
+use lib.ListN.{replicate}
 use Rattle.refusals.specs.declared.Refusal.{Refusal}
 use Rattle.refusals.specs.declared.Refusal.the-variants.{TooLong, CutShort, WrongSignature, WrongVersion, WrongSize, Repeated, UnknownField, Absent, Unlisted, BrokenDictionary, TooManyRounds, HeaderHash, HeaderTag, BlockTag, TrailingBytes, WrongPadding, NoRoom, WrongCredential, OutOfSequence, TooFewRounds, FigureOutside}
 use Rattle.refusals.specs.declared.Outcome.{Outcome}
@@ -84,11 +92,34 @@ abbrev pub ofOutcome : Outcome → ℕ
 ofOutcome Accepted = 0
 ofOutcome (Refused r) = ofRefusal r
 
+abbrev pub placeOfOutcome : Outcome → ℕ
+placeOfOutcome Accepted = 0
+placeOfOutcome (Refused r) = placeOf r
+
 -- "A refusal returns its number with zero in every other answer"
 abbrev pub ofWritten : Written → ℕ
 ofWritten (written.Wrote n) = 0
 ofWritten (written.Refused r) = ofRefusal r
 
+abbrev pub placeOfWritten : Written → ℕ
+placeOfWritten (written.Wrote n) = 0
+placeOfWritten (written.Refused r) = placeOf r
+
 abbrev pub countOf : Written → ℕ
 countOf (written.Wrote n) = n
 countOf (written.Refused r) = 0
+
+-- "For an answer that is an enum, a definition provides this paper's number and values for each of the enum's cases":
+-- the number, the place of a refusal and the values
+pub record Said : Type 0 where
+  pub number : ℕ
+  pub place : ℕ
+  pub values : List ℕ
+
+-- "0 is success"
+abbrev pub success : List ℕ → Said
+success values = record { number = 0; place = 0; values = values }
+
+-- "A refusal returns its number with zero in every other answer": in its n values, but not in its place
+abbrev pub refused : ℕ → Refusal → Said
+refused n r = record { number = ofRefusal r; place = placeOf r; values = replicate n 0 }

@@ -167,6 +167,16 @@ impl Outcome {
             Outcome::Refused(r) => r.number(),
         }
     }
+
+    // The place of a refusal: 0 on success.
+    pub fn place(self) -> usize
+        ensures { λ r. ⌜ r ≡ numbers.placeOfOutcome self ⌝ }
+    {
+        match self {
+            Outcome::Accepted => 0,
+            Outcome::Refused(r) => r.place(),
+        }
+    }
 }
 
 impl Written {
@@ -177,6 +187,16 @@ impl Written {
         match self {
             Written::Wrote(_) => 0,
             Written::Refused(r) => r.number(),
+        }
+    }
+
+    // The place of a refusal: 0 on success.
+    pub fn place(self) -> usize
+        ensures { λ r. ⌜ r ≡ numbers.placeOfWritten self ⌝ }
+    {
+        match self {
+            Written::Wrote(_) => 0,
+            Written::Refused(r) => r.place(),
         }
     }
 

@@ -3,12 +3,35 @@ ghost use mathlib.Core.Path.{_≡_};
 ghost use Prim.Native.Nat.{_+_, _*_};
 ghost use Rattle.words.specs.Endian as endian;
 ghost use Rattle.words.specs.Size.{int32};
+ghost use Rattle.words.specs.Answers as answers;
 use crate::byte_at;
 
 // What a size field (Int32) holds.
 pub enum Size {
     Of(u32),
     Negative,
+}
+
+impl Size {
+    // The number of the answer: 0, or 5 of a negative size.
+    pub fn number(self) -> u8
+        ensures { λ r. ⌜ r ≡ answers.number self ⌝ }
+    {
+        match self {
+            Size::Of(_) => 0,
+            Size::Negative => 5,
+        }
+    }
+
+    // The size: 0 of a negative one.
+    pub fn value(self) -> u32
+        ensures { λ r. ⌜ r ≡ answers.value self ⌝ }
+    {
+        match self {
+            Size::Of(n) => n,
+            Size::Negative => 0,
+        }
+    }
 }
 
 // The number of four bytes.
