@@ -1,11 +1,15 @@
 // The ciphers of a payload (document 01, "Header"): which one an identifier names, and how long its nonce is.
 //
-// The contracts cite specs/Ciphers. The identifiers and nonce lengths are constants of each cipher's type.
+// The contracts cite specs/Ciphers, and specs/Answers for what an answer says. The identifiers and nonce lengths are
+// constants of each cipher's type. Refusal: 9.
 ghost use mathlib.Core.Path.{_≡_};
+ghost use mathlib.Core.List.{[], _∷_};
 ghost use lib.ListN.{take};
 ghost use Rattle.ciphers.specs.Ciphers as ciphers;
+ghost use Rattle.ciphers.specs.Answers as answers;
 use aes::Aes256;
 use chacha20::ChaCha20;
+use refusals::Refusal;
 
 // A payload's cipher.
 pub enum Cipher {
@@ -22,6 +26,7 @@ pub enum Identified {
 // The cipher of an identifier.
 pub fn identify(id: &[u8]) -> Identified
     ensures { λ r. ⌜ r ≡ ciphers.cipherOf (now (id .entry)) ⌝ }
+    ensures { λ r. ⌜ answers.said r ≡ answers.said (ciphers.cipherOf (now (id .entry))) ⌝ }
 {
     let aes = Aes256::ID;
     if slices::same(id, &aes) {
@@ -52,6 +57,38 @@ impl Cipher {
         match self {
             Cipher::Aes256 => Aes256::NONCE_LEN,
             Cipher::ChaCha20 => ChaCha20::NONCE_LEN,
+        }
+    }
+
+    // A cipher's number.
+    pub fn number(self) -> u8
+        ensures { λ r. ⌜ r ≡ answers.cipherNumber self ⌝ }
+    {
+        match self {
+            Cipher::Aes256 => 0,
+            Cipher::ChaCha20 => 1,
+        }
+    }
+}
+
+impl Identified {
+    // The number of the answer: 0, or 9.
+    pub fn number(self) -> u8
+        ensures { λ r. ⌜ r ≡ answers.said self .number ⌝ }
+    {
+        match self {
+            Identified::As(_) => 0,
+            Identified::Unlisted => Refusal::Unlisted(0).number(),
+        }
+    }
+
+    // The cipher's number: 0 where there is none.
+    pub fn value(self) -> u8
+        ensures { λ r. ⌜ r ∷ [] ≡ answers.said self .values ⌝ }
+    {
+        match self {
+            Identified::As(c) => c.number(),
+            Identified::Unlisted => 0,
         }
     }
 }

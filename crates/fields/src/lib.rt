@@ -3,8 +3,9 @@
 //   ID (one byte) | size (Int32) | value
 //
 // Both headers read their fields by `field_at`. What differs between them (which IDs are listed, which may recur, how
-// long a value may be) comes as arguments. The contracts cite specs/Fields. Values are told by their places, and
-// nothing is copied. Refusals: 2, 7, 6, 5 and 2, in this order. `put` writes a field.
+// long a value may be) comes as arguments. The contracts cite specs/Fields, and specs/Answers for what an answer says.
+// Values are told by their places, and nothing is copied. Refusals: 2, 7, 6, 5 and 2, in this order. `put` writes a
+// field.
 ghost use mathlib.Core.Path.{_≡_};
 ghost use Prim.Native.Nat.{_+_, _≤_};
 ghost use lib.ListN.{length};
@@ -12,6 +13,7 @@ ghost use Rattle.words.specs.Endian.{le};
 ghost use Rattle.slices.specs.Over.{putAt};
 ghost use Rattle.words.specs.Size.{int32};
 ghost use Rattle.fields.specs.Fields as fields;
+ghost use Rattle.fields.specs.Answers as answers;
 use refusals::Refusal;
 use words::le::Size;
 
@@ -32,6 +34,38 @@ pub enum SizeRule {
 pub enum Field {
     At(u8, Place),
     Refused(Refusal),
+}
+
+impl Field {
+    // The number of the answer: 0 is success.
+    pub fn number(self) -> u8
+        ensures { λ r. ⌜ r ≡ answers.said self .number ⌝ }
+    {
+        match self {
+            Field::At(_, _) => 0,
+            Field::Refused(r) => r.number(),
+        }
+    }
+
+    // The place of a refusal: 0 on success.
+    pub fn place(self) -> usize
+        ensures { λ r. ⌜ r ≡ answers.said self .place ⌝ }
+    {
+        match self {
+            Field::At(_, _) => 0,
+            Field::Refused(r) => r.place(),
+        }
+    }
+
+    // The ID, and the start and the length of the value: zeros on a refusal.
+    pub fn values(self) -> [u64; 3]
+        ensures { λ r. ⌜ r ≡ answers.said self .values ⌝ }
+    {
+        match self {
+            Field::At(id, p) => [id as u64, p.start as u64, p.length as u64],
+            Field::Refused(_) => [0u64; 3],
+        }
+    }
 }
 
 // Whether a rule allows so many bytes.
@@ -70,6 +104,7 @@ fn value_at(s: &[u8], at: usize, rule: SizeRule) -> Field
 // caller.
 pub fn field_at(s: &[u8], at: usize, listed: bool, repeated: bool, rule: SizeRule) -> Field
     ensures { λ r. ⌜ r ≡ fields.fieldAt listed repeated rule (now (s .entry)) at ⌝ }
+    ensures { λ r. ⌜ answers.said r ≡ answers.said (fields.fieldAt listed repeated rule (now (s .entry)) at) ⌝ }
 {
     if s.len() < 5 {
         return Field::Refused(Refusal::CutShort(s.len()));

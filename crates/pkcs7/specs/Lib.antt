@@ -1,2 +1,3 @@
 pub mod Pkcs7
 pub mod Answer
+pub mod Answers

@@ -1,16 +1,42 @@
 // PKCS #7 padding (RFC 5652, 6.3) to whole pieces of 16 bytes.
 //
 // A payload gets 1 to 16 bytes behind it, each holding their number, and a whole piece where it fills its last one.
-// The contracts cite specs/Pkcs7. The check looks at every byte of the last piece, whichever of them are wrong.
+// The contracts cite specs/Pkcs7. The check looks at every byte of the last piece, whichever of them are wrong; what it
+// says in document 01's numbers is in specs/Answers. Refusal: 16.
 ghost use mathlib.Core.Path.{_≡_};
+ghost use mathlib.Core.List.{[], _∷_};
 ghost use Prim.Native.Nat.{_<_};
 ghost use Rattle.pkcs7.specs.Pkcs7 as pkcs7;
 ghost use Rattle.pkcs7.specs.Answer.{answer, padded, wrongBits};
+ghost use Rattle.pkcs7.specs.Answers as answers;
+use refusals::Refusal;
 
 // What the check of a last piece finds: how many bytes pad it, or that its padding is wrong.
 pub enum Padding {
     Of(u8),
     Wrong,
+}
+
+impl Padding {
+    // The number of the answer: 0, or 16.
+    pub fn number(self) -> u8
+        ensures { λ r. ⌜ r ≡ answers.said self .number ⌝ }
+    {
+        match self {
+            Padding::Of(_) => 0,
+            Padding::Wrong => Refusal::WrongPadding.number(),
+        }
+    }
+
+    // How many bytes pad the piece: 0 where the padding is wrong.
+    pub fn value(self) -> u8
+        ensures { λ r. ⌜ r ∷ [] ≡ answers.said self .values ⌝ }
+    {
+        match self {
+            Padding::Of(p) => p,
+            Padding::Wrong => 0,
+        }
+    }
 }
 
 // How many bytes pad a payload of n bytes.
@@ -46,6 +72,7 @@ fn wrong_bits(i: usize, p: u8, x: u8) -> u8
 // Checks the padding of the last piece.
 pub fn check(piece: [u8; 16]) -> Padding
     ensures { λ r. ⌜ r ≡ answer (pkcs7.padding piece) ⌝ }
+    ensures { λ r. ⌜ answers.said r ≡ answers.said (answer (pkcs7.padding piece)) ⌝ }
 {
     let p = piece[15];
     let mut d: u8 = 0;

@@ -1,7 +1,5 @@
 // The rows of the check.
 ghost use Prim.Native.Nat.{_<_};
-use pkcs7::Padding;
-use refusals::Refusal;
 
 // A piece with padding of each length, right and then changed.
 pub fn paddings() {
@@ -61,8 +59,11 @@ fn flipped(piece: [u8; 16], at: usize, bits: u8) -> [u8; 16]
 // The check's answer on a piece.
 fn tried(form: &[u8], piece: [u8; 16]) {
     let found = pkcs7::check(piece);
-    match found {
-        Padding::Of(p) => vectors::row(b"pkcs7", form, p as usize, 0, &piece),
-        Padding::Wrong => vectors::row(b"pkcs7", form, 0, Refusal::WrongPadding.number(), &piece),
-    }
+    vectors::row(
+        b"pkcs7",
+        form,
+        found.value() as usize,
+        found.number(),
+        &piece,
+    );
 }

@@ -14,13 +14,13 @@ returns-2 : tie.Need-returns-2
 unfolding checked checkedCipher
 returns-2 c =
     let i = c .before .before in
-    rw (le-leb _ 1 (i .before .if1 .left), sym (i .identify .ensures) ∙ c .enum-told .given .1)
+    rw (le-leb _ 1 (i .before .if1 .left), sym (i .identify .ensures .0) ∙ c .enum-told .given .1)
 
 returns-3 : tie.Need-returns-3
 unfolding checked checkedCipher
 returns-3 c =
     let i = c .before .before .before .before in
-    rw (le-leb _ 1 (i .before .if1 .left), sym (i .identify .ensures) ∙ c .before .before .c .given .1)
+    rw (le-leb _ 1 (i .before .if1 .left), sym (i .identify .ensures .0) ∙ c .before .before .c .given .1)
     (c .check-sizes .ensures)
 
 pub check-spec : {M : Type 1} → statement M

@@ -11,7 +11,7 @@ returns c =
       ← c .before .before .before .byte-at .ensures,
       ← c .before .before .is-repeated .ensures,
       ← c .before .rule-of .ensures,
-    ) (c .field-at .ensures)
+    ) (c .field-at .ensures .0)
 
 pub field-of-spec : {M : Type 1} → statement M
 field-of-spec =

@@ -51,7 +51,7 @@ returns-3 c =
     let h = pieced .before .if2 .left in
     let l = some-piece (a .c) (pieced .before .before .if1 .left) h in
     let x = pieced .last-piece .result in
-    let e : padding x ≡ 0 = answer-wrong (padding x) (sym (c .enum-told .given .1) ∙ checked .check .ensures) in
+    let e : padding x ≡ 0 = answer-wrong (padding x) (sym (c .enum-told .given .1) ∙ checked .check .ensures .0) in
     answered-refused (payloadBy Aes256 (a .k) t) WrongPadding (now (a .out))
     (payload-wrong (a .k) t (a .c) (nonce-size st) (st .pre) h l x (pieced .last-piece .ensures) e)
 
@@ -62,7 +62,7 @@ padding-is : (c : tie.After-known-told)
 padding-is c =
     let checked = c .before .before .before in
     answer-of (padding (checked .before .last-piece .result)) (c .before .padding .given .0 .0)
-    (sym (c .before .padding .given .1) ∙ checked .check .ensures)
+    (sym (c .before .padding .given .1) ∙ checked .check .ensures .0)
 
 sub-m : tie.Need-sub-m
 sub-m c =

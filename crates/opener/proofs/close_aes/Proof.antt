@@ -58,7 +58,7 @@ returns-3 c =
     let e : padding (aesFrom (o .keys) (o .prev) (o .held)) ≡ 0 =
     ap padding (sym (at-piece .last-piece .ensures))
     ∙ answer-wrong (padding (at-piece .last-piece .result))
-    (sym (at-check .check .ensures) ∙ c .before .enum-told .given .1) in
+    (sym (at-check .check .ensures .0) ∙ c .before .enum-told .given .1) in
     does-by _ (refuse WrongPadding (blank Closed)) _ d d
     (last-wrong (o .keys) (o .taken) (o .prev) (o .held) o (length d) (at-if .before .before .if1 .left)
     (at-if .if2 .left) e)
@@ -68,7 +68,7 @@ sub-n : tie.Need-sub-n
 sub-n c =
     let at-check = c .before .before .before in
     let x = at-check .before .last-piece .result in
-    let e = answer-of (padding x) _ (sym (at-check .check .ensures) ∙ c .before .p .given .1) .0 in
+    let e = answer-of (padding x) _ (sym (at-check .check .ensures .0) ∙ c .before .p .given .1) .0 in
     omega (arith, e, padding-le x)
 
 returns-4 : tie.Need-returns-4
@@ -81,7 +81,8 @@ returns-4 c =
     let o = st .args .o in
     let d = now (st .args .out) in
     last-short (o .keys) (o .taken) (o .prev) (o .held) o d (at-if .before .before .if1 .left) (at-if .if2 .left)
-    (long-prev st) (long-held st) _ (at-piece .last-piece .ensures) _ (at-check .check .ensures) _ (at-p .p .given .1) _
+    (long-prev st) (long-held st) _ (at-piece .last-piece .ensures) _ (at-check .check .ensures .0) _
+    (at-p .p .given .1) _
     (c .before .if3 .taken) (c .refuse4 .ensures)
 
 slice-aggregate-copy : tie.Need-slice-aggregate-copy
@@ -102,7 +103,8 @@ returns-5 c =
     let o = st .args .o in
     let d = now (st .args .out) in
     last-does (o .keys) (o .taken) (o .prev) (o .held) o d (at-if .before .before .if1 .left) (at-if .if2 .left)
-    (long-prev st) (long-held st) _ (at-piece .last-piece .ensures) _ (at-check .check .ensures) _ (at-p .p .given .1) _ _
+    (long-prev st) (long-held st) _ (at-piece .last-piece .ensures) _ (at-check .check .ensures .0) _
+    (at-p .p .given .1) _ _
     (at-room .if3 .left) (c .blank2 .ensures) (at-copy .copy .ensures)
 
 pub close-aes-spec : {M : Type 1} → statement M

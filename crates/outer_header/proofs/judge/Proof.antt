@@ -12,7 +12,7 @@ returns c =
     rw (
       sym (all .before .is-complete .ensures) ∙ all .if1 .taken,
       ← c .before .before .part .ensures,
-      ← c .before .identify .ensures,
+      ← c .before .identify .ensures .0,
     ) (c .identified .ensures)
 
 returns-2 : tie.Need-returns-2

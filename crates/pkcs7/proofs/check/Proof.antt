@@ -10,6 +10,8 @@ use lib.Dec.{eqb}
 use lib.ListN.{length, getD, drop}
 use Rattle.pkcs7.proofs.Laws.Check.{checkedFrom, checkedFrom-end, checkedFrom-more}
 use Rattle.pkcs7.proofs.Laws.Check.{answer-zero, answer-large, answer-checked}
+use Rattle.refusals.proofs.Laws.Numbers.{said-too}
+use Rattle.pkcs7.specs.Answers.{said}
 use borrow.Author.Needs.{needs}
 use Rattle.pkcs7.proofs.check.Statement.{statement}
 use Rattle.pkcs7.proofs.check.Tie as tie
@@ -37,10 +39,12 @@ loop-again c =
     (omega arith, l .inv .1, bits ∙ checkedFrom-more (l .d) p (l .i - 1) s (omega arith) h)
 
 returns : tie.Need-returns Inv-loop μ-loop
-returns c = answer-zero _ _ (c .before .before .loop .inv .1) refl (c .if1 .taken)
+returns c = said-too said (answer-zero _ _ (c .before .before .loop .inv .1) refl (c .if1 .taken))
 
 returns-2 : tie.Need-returns-2 Inv-loop μ-loop
-returns-2 c = answer-large _ _ (c .before .before .before .loop .inv .1) refl (c .before .if1 .left) (c .if2 .taken)
+returns-2 c =
+    let l = c .before .before .before .loop in
+    said-too said (answer-large _ _ (l .inv .1) refl (c .before .if1 .left) (c .if2 .taken))
 
 returns-3 : tie.Need-returns-3 Inv-loop μ-loop
 returns-3 c =
@@ -48,7 +52,7 @@ returns-3 c =
     let s = c .before .before .before .before .before .args .t1 in
     let z : l .i ≡ 0 = omega arith in
     let t = sym (eq-eqb _ 0 (c .if3 .taken)) ∙ l .inv .2 ∙ ap (λ (k : ℕ). checkedFrom (getD s 15 0) k (drop k s)) z in
-    answer-checked s _ (l .inv .1) refl (c .before .before .if1 .left) (c .before .if2 .left) true t
+    said-too said (answer-checked s _ (l .inv .1) refl (c .before .before .if1 .left) (c .before .if2 .left) true t)
 
 returns-4 : tie.Need-returns-4 Inv-loop μ-loop
 returns-4 c =
@@ -56,7 +60,7 @@ returns-4 c =
     let s = c .before .before .before .before .before .args .t1 in
     let z : l .i ≡ 0 = omega arith in
     let t = sym (ne-eqb _ 0 (c .if3 .left)) ∙ l .inv .2 ∙ ap (λ (k : ℕ). checkedFrom (getD s 15 0) k (drop k s)) z in
-    answer-checked s _ (l .inv .1) refl (c .before .before .if1 .left) (c .before .if2 .left) false t
+    said-too said (answer-checked s _ (l .inv .1) refl (c .before .before .if1 .left) (c .before .if2 .left) false t)
 
 pub check-spec : {M : Type 1} → statement M
 check-spec =

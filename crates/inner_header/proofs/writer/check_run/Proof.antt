@@ -42,7 +42,7 @@ returns-2 c =
     let g = u .r .given in
     let m =
     runFrom-more (l .left) s (l .at) (e .field-at .result) (search needs) (search needs)
-    (e .field-at .ensures ∙ ap (λ (n : ℕ). fieldAt (eqb n 3) false (AtLeast 1) s (l .at)) b) in
+    (e .field-at .ensures .0 ∙ ap (λ (n : ℕ). fieldAt (eqb n 3) false (AtLeast 1) s (l .at)) b) in
     rw (c .unplaced .ensures) (sym (ap (λ (w : Run). verdict w) (rw (g .1) at m)) ∙ l .inv)
 
 add-at : tie.Need-add-at Inv-loop μ-loop
@@ -55,7 +55,7 @@ add-at c =
     let g = c .before .before .p .given in
     let w =
     runAt-stands s (l .at) (g .0 .0) (g .0 .1 .0)
-    (sym (ap (λ (n : ℕ). fieldAt (eqb n 3) false (AtLeast 1) s (l .at)) b) ∙ sym (e .field-at .ensures) ∙ g .1) in
+    (sym (ap (λ (n : ℕ). fieldAt (eqb n 3) false (AtLeast 1) s (l .at)) b) ∙ sym (e .field-at .ensures .0) ∙ g .1) in
     search needs
 
 loop-again : tie.Need-loop-again Inv-loop μ-loop
@@ -69,7 +69,7 @@ loop-again c =
     let p = g .0 .1 .0 in
     let m =
     runFrom-more (l .left) s (l .at) (e .field-at .result) (search needs) (search needs)
-    (e .field-at .ensures ∙ ap (λ (n : ℕ). fieldAt (eqb n 3) false (AtLeast 1) s (l .at)) b) in
+    (e .field-at .ensures .0 ∙ ap (λ (n : ℕ). fieldAt (eqb n 3) false (AtLeast 1) s (l .at)) b) in
     sym (verdict-before p (runFrom (l .left - 1) s (p .start + p .length)))
     ∙ sym (ap (λ (w : Run). verdict w) (rw (g .1) at m)) ∙ l .inv
 

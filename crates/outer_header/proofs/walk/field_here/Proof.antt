@@ -12,7 +12,7 @@ returns c =
       ← c .before .before .before .is-listed .ensures,
       ← c .before .before .has .ensures,
       ← c .before .size-rule .ensures,
-    ) (c .field-at .ensures)
+    ) (c .field-at .ensures .0)
 
 pub field-here-spec : {M : Type 1} → statement M
 field-here-spec =
