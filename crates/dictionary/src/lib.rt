@@ -2,16 +2,18 @@
 //
 //   00 01 | type, name size, name, value size, value | type, … | 00
 //
-// The contracts cite specs/Dictionary. An item is told by its places in the dictionary, and nothing is copied.
-// Refusals: 10 for any fault of the form, 6 for a sound item whose name an earlier item has; the first met from the
-// front is given, with the place of its item, or 0 where it is no item's. Repeated names are searched for in batches
-// (repeats): with a table of 64 places on the stack, and where there are more items with one of 4,096 (16 KiB).
+// The contracts cite specs/Dictionary, and specs/Answers for what an answer says. An item is told by its places in the
+// dictionary, and nothing is copied. Refusals: 10 for any fault of the form, 6 for a sound item whose name an earlier
+// item has; the first met from the front is given, with the place of its item, or 0 where it is no item's. Repeated
+// names are searched for in batches (repeats): with a table of 64 places on the stack, and where there are more items
+// with one of 4,096 (16 KiB).
 ghost use mathlib.Core.Path.{_≡_};
 ghost use Prim.Native.Nat.{_+_, _≤_};
 ghost use lib.ListN.{length};
 ghost use Rattle.words.specs.Endian.{le};
 ghost use Rattle.words.specs.Size.{int32};
 ghost use Rattle.dictionary.specs.Dictionary as dictionary;
+ghost use Rattle.dictionary.specs.Answers as answers;
 ghost use Rattle.dictionary.specs.Lookup.{Looked};
 use refusals::Refusal;
 use repeats::Batch;
@@ -52,6 +54,119 @@ pub enum Found {
     },
     Absent,
     Refused(Refusal),
+}
+
+impl Entry {
+    // The number of the answer: 0, or 10.
+    pub fn number(self) -> u8
+        ensures { λ r. ⌜ r ≡ answers.saidEntry self .number ⌝ }
+    {
+        match self {
+            Entry::Item(_) => 0,
+            Entry::End => 0,
+            Entry::Broken(at) => Refusal::BrokenDictionary(at).number(),
+        }
+    }
+
+    // The place of a refusal: 0 on success.
+    pub fn place(self) -> usize
+        ensures { λ r. ⌜ r ≡ answers.saidEntry self .place ⌝ }
+    {
+        match self {
+            Entry::Item(_) => 0,
+            Entry::End => 0,
+            Entry::Broken(at) => at,
+        }
+    }
+
+    // 1, the type, start and length of the name and of the value; zeros at the last byte, and on a refusal.
+    pub fn values(self) -> [u64; 6]
+        ensures { λ r. ⌜ r ≡ answers.saidEntry self .values ⌝ }
+    {
+        match self {
+            Entry::Item(i) => [
+                1,
+                i.kind as u64,
+                i.name as u64,
+                i.name_len as u64,
+                i.value as u64,
+                i.value_len as u64,
+            ],
+            Entry::End => [0u64; 6],
+            Entry::Broken(_) => [0u64; 6],
+        }
+    }
+}
+
+impl Verdict {
+    // The number of the answer: 0, 10 or 6.
+    pub fn number(self) -> u8
+        ensures { λ r. ⌜ r ≡ answers.saidVerdict self .number ⌝ }
+    {
+        match self {
+            Verdict::Sound => 0,
+            Verdict::Broken(at) => Refusal::BrokenDictionary(at).number(),
+            Verdict::Repeated(at) => Refusal::Repeated(at).number(),
+        }
+    }
+
+    // The place of a refusal: 0 on success.
+    pub fn place(self) -> usize
+        ensures { λ r. ⌜ r ≡ answers.saidVerdict self .place ⌝ }
+    {
+        match self {
+            Verdict::Sound => 0,
+            Verdict::Broken(at) => at,
+            Verdict::Repeated(at) => at,
+        }
+    }
+}
+
+impl Found {
+    // The number of the answer: 0 of a sound dictionary.
+    pub fn number(self) -> u8
+        ensures { λ r. ⌜ r ≡ answers.saidFound self .number ⌝ }
+    {
+        match self {
+            Found::At {
+                kind: _,
+                start: _,
+                length: _,
+            } => 0,
+            Found::Absent => 0,
+            Found::Refused(r) => r.number(),
+        }
+    }
+
+    // The place of a refusal: 0 on success.
+    pub fn place(self) -> usize
+        ensures { λ r. ⌜ r ≡ answers.saidFound self .place ⌝ }
+    {
+        match self {
+            Found::At {
+                kind: _,
+                start: _,
+                length: _,
+            } => 0,
+            Found::Absent => 0,
+            Found::Refused(r) => r.place(),
+        }
+    }
+
+    // 1, the type, the value's start and length; zeros where there is no such name, and on a refusal.
+    pub fn values(self) -> [u64; 4]
+        ensures { λ r. ⌜ r ≡ answers.saidFound self .values ⌝ }
+    {
+        match self {
+            Found::At {
+                kind,
+                start,
+                length,
+            } => [1, kind as u64, start as u64, length as u64],
+            Found::Absent => [0u64; 4],
+            Found::Refused(_) => [0u64; 4],
+        }
+    }
 }
 
 // Whether a value of a type may have so many bytes.
@@ -110,6 +225,7 @@ fn value_at(s: &[u8], at: usize, n: usize) -> Entry
 // What stands at a place: an item, the last byte, or a fault.
 pub fn entry_at(s: &[u8], at: usize) -> Entry
     ensures { λ r. ⌜ r ≡ dictionary.entryAt (now (s .entry)) at ⌝ }
+    ensures { λ r. ⌜ answers.saidEntry r ≡ answers.saidEntry (dictionary.entryAt (now (s .entry)) at) ⌝ }
 {
     if s.len() <= at {
         return Entry::Broken(0);
@@ -138,6 +254,7 @@ pub fn entry_at(s: &[u8], at: usize) -> Entry
 // Whether a dictionary is sound, or its first fault. Few items fit a small table; many are judged in batches.
 pub fn check(s: &[u8]) -> Verdict
     ensures { λ r. ⌜ r ≡ dictionary.verdict (now (s .entry)) ⌝ }
+    ensures { λ r. ⌜ answers.saidVerdict r ≡ answers.saidVerdict (dictionary.verdict (now (s .entry))) ⌝ }
 {
     if s.len() < 3 {
         return Verdict::Broken(0);
@@ -183,6 +300,7 @@ pub fn search_sound(s: &[u8], name: &[u8]) -> Found
 // Where the value of a name stands, that there is none, or why the dictionary is refused.
 pub fn find(s: &[u8], name: &[u8]) -> Found
     ensures { λ r. ⌜ r ≡ dictionary.find (now (s .entry)) (now (name .entry)) ⌝ }
+    ensures { λ r. ⌜ answers.saidFound r ≡ answers.saidFound (dictionary.find (now (s .entry)) (now (name .entry))) ⌝ }
 {
     match check(s) {
         Verdict::Sound => return search_sound(s, name),

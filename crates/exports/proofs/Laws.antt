@@ -2,7 +2,7 @@
 -- definition's, p and y.
 --
 -- In order: answer-accepted, answer-refused; answer-wrote, answer-not-written of an operation that writes into a slice;
--- figuresOr-refused, answer-figures, answer-no-figures of one that answers figures, by its answer's number n;
+-- answer-said, answer-values, answer-no-values of a reader, by what its answer says, with number n and place p;
 -- outcome-transformed, key-transformed of a run of Argon2; keptOr-wrote, keptOr-17, keptOr-19, keptOr-next of a step's
 -- state, by its number; kept-wrote, kept-refused of an inner stream's; join-is, two halves as code lays them.
 -- Assumes nothing.
@@ -11,12 +11,11 @@ use mathlib.Core.List.{List, _++_}
 use Prim.Native.Nat.{ℕ}
 use native.Mathlib.Omega.{arith}
 use lib.ListN.{length, replicate, length-append, length-replicate}
-use borrow.Author.Tests.{ne-eqb}
+use borrow.Author.Tests.{eq-eqb, ne-eqb}
 use Rattle.slices.specs.Over.{putAt}
 use Rattle.slices.proofs.Laws.Over.{over-whole}
 use Rattle.slices.proofs.Laws.Put.{laid-first, laid-more}
-use Rattle.refusals.proofs.Laws.Numbers.{ofRefusal-positive}
-use Rattle.refusals.specs.Numbers.{ofRefusal, ofOutcome, ofWritten}
+use Rattle.refusals.specs.Numbers.{Said, ofRefusal, ofOutcome, ofWritten}
 use Rattle.refusals.specs.declared.Refusal.{Refusal}
 use Rattle.refusals.specs.declared.Outcome.{Outcome}
 use Rattle.refusals.specs.declared.Outcome.the-variants.{Accepted, Refused}
@@ -25,7 +24,7 @@ use Rattle.refusals.specs.declared.Written.the-variants as written
 use Rattle.argon2.specs.Rfc9106.{Inputs, tag}
 use Rattle.argon2.specs.Run.{transformed}
 use Rattle.calls.specs.Calls.{resultOr, keptOr, keptUnless}
-use Rattle.exports.specs.Lent.{figuresOr, countOr}
+use Rattle.exports.specs.Lent.{valuesOr, countOr}
 
 pub answer-accepted : {o p : Outcome} {x y : List ℕ} (had : List ℕ) → o ≡ p → x ≡ y → o ≡ Accepted
     → (0 ≡ ofOutcome p) × (x ≡ resultOr p y had)
@@ -43,16 +42,18 @@ pub answer-not-written : {w v : Written} {m : ℕ} {r : Refusal} (had : ℕ) →
     → w ≡ written.Refused r → (m ≡ ofWritten v) × (had ≡ countOr v had)
 answer-not-written had e f a = rw (sym e ∙ a) (f, refl)
 
--- no refusal has the number 0
-pub figuresOr-refused : (r : Refusal) (values had : List ℕ) → had ≡ figuresOr (ofRefusal r) values had
-figuresOr-refused r values had = rw (ne-eqb (ofRefusal r) 0 (λ e. omega (arith, ofRefusal-positive r)))
+-- what a reader's answer says, s, is what the definition's says, q
+pub answer-said : {n p : ℕ} {s q : Said} → s ≡ q → n ≡ s .number → p ≡ s .place → (n ≡ q .number) × (p ≡ q .place)
+answer-said e f g = rw (← e) (f, g)
 
-pub answer-figures : {n : ℕ} {x y : List ℕ} (had : List ℕ) → n ≡ 0 → x ≡ y → (0 ≡ n) × (x ≡ figuresOr n y had)
-answer-figures had e f = rw e (refl, f)
+pub answer-values : {n p : ℕ} {s q : Said} {v : List ℕ} (had : List ℕ) → s ≡ q → n ≡ s .number → p ≡ s .place
+    → v ≡ s .values → n ≡ 0
+    → (n ≡ q .number) × ((p ≡ q .place) × (v ≡ valuesOr q had))
+answer-values {s} had e f g h z = rw (← e) (f, (g, rw (eq-eqb (s .number) 0 (sym f ∙ z)) h))
 
-pub answer-no-figures : {n m : ℕ} {had : List ℕ} (r : Refusal) (y : List ℕ) → n ≡ ofRefusal r → m ≡ ofRefusal r
-    → (m ≡ n) × (had ≡ figuresOr n y had)
-answer-no-figures {had} r y e f = rw e (f, figuresOr-refused r y had)
+pub answer-no-values : {n p : ℕ} {s q : Said} (had : List ℕ) → s ≡ q → n ≡ s .number → p ≡ s .place → (n ≡ 0 → ⊥)
+    → (n ≡ q .number) × ((p ≡ q .place) × (had ≡ valuesOr q had))
+answer-no-values {s} had e f g d = rw (← e) (f, (g, rw (ne-eqb (s .number) 0 (λ z. d (f ∙ z)))))
 
 pub outcome-transformed : (o : Outcome) (i : Inputs) → transformed o i .outcome ≡ o
 unfolding transformed

@@ -1,10 +1,7 @@
 -- What an exported function leaves in the memory that it is lent. Document 01, "Refusal numbers": "A refusal … changes
 -- no lent byte".
 --
---   figuresOr     figures, where their answer's number is 0
---   headerPlace, .. outcomePlace    the place of a refusal, 0 where there is none (document 02, Item 8)
---   verdictOutcome    what a lone dictionary's check answers
---   headerWith    the figures of a header with those of its KDF
+--   valuesOr      the values of an answer, where its number is 0
 --   argon2Kind    the kind of Argon2 that a number of C stands for; argon2Outcome: 9 where it stands for none
 --   chosen        the KDF that a number of C and figures stand for; answerBy, bytesBy: a writing with it
 --   countOr       a number of bytes, where the operation wrote them
@@ -12,16 +9,16 @@
 -- Not here: what the calls on a lent state leave, and resultOr (crate calls, Calls).
 -- Assumes nothing.
 use mathlib.Core.Bool.{cond, not, _||_}
-use mathlib.Core.List.{List, [], _∷_}
+use mathlib.Core.List.{List, []}
 use Prim.Native.Nat.{ℕ}
 use lib.Dec.{eqb, leb}
 use Rattle.refusals.specs.declared.Refusal.{Refusal}
-use Rattle.refusals.specs.declared.Refusal.the-variants.{WrongVersion, Repeated, Unlisted, BrokenDictionary}
+use Rattle.refusals.specs.declared.Refusal.the-variants.{WrongVersion, Unlisted}
 use Rattle.refusals.specs.declared.Outcome.{Outcome}
 use Rattle.refusals.specs.declared.Outcome.the-variants.{Accepted, Refused}
 use Rattle.refusals.specs.declared.Written.{Written}
 use Rattle.refusals.specs.declared.Written.the-variants as written
-use Rattle.refusals.specs.Numbers.{placeOf}
+use Rattle.refusals.specs.Numbers.{Said}
 use Rattle.sha256.specs.State as sha256State
 use Rattle.sha512.specs.State as sha512State
 use Rattle.hmac.specs.State as hmacState
@@ -34,20 +31,6 @@ use Rattle.argon2.specs.declared.Kind.{Kind}
 use Rattle.argon2.specs.declared.Kind.the-variants.{Argon2d, Argon2id}
 use Rattle.kdf_dictionary.specs.declared.writer.Figures.{Figures}
 use Rattle.kdf_dictionary.specs.declared.writer.Figures.the-variants as figures
-use Rattle.outer_header.specs.declared.Header.{Header}
-use Rattle.outer_header.specs.declared.Reading.{Reading}
-use Rattle.outer_header.specs.declared.Reading.the-variants as reading
-use Rattle.dictionary.specs.declared.Verdict.{Verdict}
-use Rattle.dictionary.specs.declared.Verdict.the-variants as verdictIs
-use Rattle.outer_header.specs.Answers as headerAnswers
-use Rattle.dictionary.specs.declared.Found.{Found}
-use Rattle.dictionary.specs.declared.Found.the-variants as found
-use Rattle.dictionary.specs.Answers as dictionaryAnswers
-use Rattle.inner_header.specs.declared.Read.{Read}
-use Rattle.inner_header.specs.declared.Read.the-variants as inner
-use Rattle.inner_header.specs.declared.Attachment.{Attachment}
-use Rattle.inner_header.specs.declared.Attachment.the-variants as attached
-use Rattle.inner_header.specs.Answers as innerAnswers
 use Rattle.calls.specs.Calls.{resultOr}
 use Rattle.exports.specs.declared.vaults.Chosen.{Chosen}
 use Rattle.exports.specs.declared.vaults.Chosen.the-variants as chosenAs
@@ -85,62 +68,8 @@ argon2Outcome kdf i memory words =
     cond (eqb kdf 1 || eqb kdf 2) (argon2.outcome i memory words) (Refused (Unlisted 0))
 
 -- an answer's values where its number is 0, and the figures that stood there where it is a refusal's
-abbrev pub figuresOr : ℕ → List ℕ → List ℕ → List ℕ
-figuresOr number values had = cond (eqb number 0) values had
-
--- document 02, Item 8: the place of a refusal, 0 where an answer is none
-abbrev pub headerPlace : Reading → ℕ
-headerPlace (reading.Header h) = 0
-headerPlace (reading.Refused r) = placeOf r
-
-abbrev pub foundPlace : Found → ℕ
-foundPlace (found.At kind start length) = 0
-foundPlace found.Absent = 0
-foundPlace (found.Refused r) = placeOf r
-
-abbrev pub innerPlace : Read → ℕ
-innerPlace (inner.Header h) = 0
-innerPlace (inner.Refused r) = placeOf r
-
-abbrev pub attachmentPlace : Attachment → ℕ
-attachmentPlace (attached.At flags p) = 0
-attachmentPlace (attached.Refused r) = placeOf r
-
-abbrev pub writtenPlace : Written → ℕ
-writtenPlace (written.Wrote n) = 0
-writtenPlace (written.Refused r) = placeOf r
-
-abbrev pub outcomePlace : Outcome → ℕ
-outcomePlace Accepted = 0
-outcomePlace (Refused r) = placeOf r
-
--- a lone dictionary: 10 or 6, with the place counted from its front
-abbrev pub verdictOutcome : Verdict → Outcome
-verdictOutcome verdictIs.Sound = Accepted
-verdictOutcome (verdictIs.Broken at) = Refused (BrokenDictionary at)
-verdictOutcome (verdictIs.Repeated at) = Refused (Repeated at)
-
-abbrev pub headerOr : Reading → List ℕ → List ℕ
-headerOr a had = figuresOr (headerAnswers.number a) (headerAnswers.values a) had
-
--- the figures of a header, with its KDF's
-abbrev pub headerWith : Header → List ℕ → List ℕ
-headerWith h kdf =
-    h .minor ∷ headerAnswers.cipherNumber (h .cipher) ∷ h .length
-    ∷ h .seed .start ∷ h .seed .length
-    ∷ h .nonce .start ∷ h .nonce .length
-    ∷ h .«kdf_dictionary» .start ∷ h .«kdf_dictionary» .length
-    ∷ h .custom .start ∷ h .custom .length
-    ∷ kdf
-
-abbrev pub foundOr : Found → List ℕ → List ℕ
-foundOr a had = figuresOr (dictionaryAnswers.number a) (dictionaryAnswers.values a) had
-
-abbrev pub innerOr : Read → List ℕ → List ℕ
-innerOr a had = figuresOr (innerAnswers.number a) (innerAnswers.values a) had
-
-abbrev pub attachmentOr : Attachment → List ℕ → List ℕ
-attachmentOr a had = figuresOr (innerAnswers.attachmentNumber a) (innerAnswers.attachmentValues a) had
+abbrev pub valuesOr : Said → List ℕ → List ℕ
+valuesOr q had = cond (eqb (q .number) 0) (q .values) had
 
 -- the number of bytes written where the operation accepts, and what stood there where it refuses
 abbrev pub countOr : Written → ℕ → ℕ

@@ -9,37 +9,26 @@ ghost use Rattle.inner_header.specs.InnerHeader as kdbx4;
 ghost use Rattle.inner_header.specs.Answers as answers;
 ghost use Rattle.inner_header.specs.Writer as writer;
 ghost use Rattle.exports.specs.Lent as lent;
-use inner_header::Attachment;
-use inner_header::Read;
 use refusals::Written;
 
-// What the inner header of a payload says.
+// What the inner header of a payload says; the place of a refusal in `place`.
 #[no_mangle]
 pub extern "C" fn kdbx4_inner(payload: &[u8], figures: &mut [u64; 5], place: &mut usize) -> u8
-    ensures { λ r. ⌜ r ≡ answers.number (kdbx4.inner (now (payload .entry))) ⌝ }
-    ensures { λ _. ⌜ now (place .exit) ≡ lent.innerPlace (kdbx4.inner (now (payload .entry))) ⌝ }
-    ensures { λ _. ⌜ now (figures .exit) ≡ lent.innerOr (kdbx4.inner (now (payload .entry))) (now (figures .entry)) ⌝ }
+    ensures { λ r. ⌜ r ≡ answers.saidRead (kdbx4.inner (now (payload .entry))) .number ⌝ }
+    ensures { λ _. ⌜ now (place .exit) ≡ answers.saidRead (kdbx4.inner (now (payload .entry))) .place ⌝ }
+    ensures { λ _. ⌜ now (figures .exit) ≡ lent.valuesOr (answers.saidRead (kdbx4.inner (now (payload .entry)))) (now (figures .entry)) ⌝ }
 {
-    match inner_header::read_header(payload) {
-        Read::Header(h) => {
-            *figures = [
-                h.algorithm as u64,
-                h.key.start as u64,
-                h.key.length as u64,
-                h.attachments as u64,
-                h.document as u64,
-            ];
-            *place = 0;
-            return 0;
-        }
-        Read::Refused(r) => {
-            *place = r.place();
-            return r.number();
-        }
+    let answer = inner_header::read_header(payload);
+    let number = answer.number();
+    *place = answer.place();
+    if number != 0 {
+        return number;
     }
+    *figures = answer.values();
+    number
 }
 
-// The flags of an attachment, counted from 0, and the place of its content.
+// The flags of an attachment, counted from 0, and the place of its content; the place of a refusal in `place`.
 #[no_mangle]
 pub extern "C" fn kdbx4_attachment(
     payload: &[u8],
@@ -47,21 +36,18 @@ pub extern "C" fn kdbx4_attachment(
     figures: &mut [u64; 3],
     place: &mut usize,
 ) -> u8
-    ensures { λ r. ⌜ r ≡ answers.attachmentNumber (kdbx4.attachment (now (payload .entry)) index) ⌝ }
-    ensures { λ _. ⌜ now (place .exit) ≡ lent.attachmentPlace (kdbx4.attachment (now (payload .entry)) index) ⌝ }
-    ensures { λ _. ⌜ now (figures .exit) ≡ lent.attachmentOr (kdbx4.attachment (now (payload .entry)) index) (now (figures .entry)) ⌝ }
+    ensures { λ r. ⌜ r ≡ answers.saidAttachment (kdbx4.attachment (now (payload .entry)) index) .number ⌝ }
+    ensures { λ _. ⌜ now (place .exit) ≡ answers.saidAttachment (kdbx4.attachment (now (payload .entry)) index) .place ⌝ }
+    ensures { λ _. ⌜ now (figures .exit) ≡ lent.valuesOr (answers.saidAttachment (kdbx4.attachment (now (payload .entry)) index)) (now (figures .entry)) ⌝ }
 {
-    match inner_header::find_attachment(payload, index) {
-        Attachment::At(flags, p) => {
-            *figures = [flags as u64, p.start as u64, p.length as u64];
-            *place = 0;
-            return 0;
-        }
-        Attachment::Refused(r) => {
-            *place = r.place();
-            return r.number();
-        }
+    let answer = inner_header::find_attachment(payload, index);
+    let number = answer.number();
+    *place = answer.place();
+    if number != 0 {
+        return number;
     }
+    *figures = answer.values();
+    number
 }
 
 // The payload of an algorithm, a key, a run of attachments and a document: over the front of `out`, and its length in

@@ -13,7 +13,6 @@ ghost use Rattle.writer.specs.Written as kdbx4;
 ghost use Rattle.calls.specs.Calls as calls;
 ghost use Rattle.exports.specs.Lent as lent;
 use kdf_dictionary::writer::Figures;
-use refusals::Outcome;
 use refusals::Refusal;
 use refusals::Written;
 use states::opener_state;
@@ -37,30 +36,17 @@ pub extern "C" fn kdbx4_open(
     ensures { λ r. ⌜ r ≡ numbers.ofWritten (whole.writtenOf (vault.openedIn (now (t .entry)) (now (file .entry)) (length (now (out .entry))))) ⌝ }
     ensures { λ _. ⌜ now (out .exit) ≡ over (whole.shownOf (vault.openedIn (now (t .entry)) (now (file .entry)) (length (now (out .entry))))) (now (out .entry)) ⌝ }
     ensures { λ _. ⌜ now (count .exit) ≡ lent.countOr (whole.writtenOf (vault.openedIn (now (t .entry)) (now (file .entry)) (length (now (out .entry))))) (now (count .entry)) ⌝ }
-    ensures { λ _. ⌜ now (place .exit) ≡ lent.writtenPlace (whole.writtenOf (vault.openedIn (now (t .entry)) (now (file .entry)) (length (now (out .entry))))) ⌝ }
+    ensures { λ _. ⌜ now (place .exit) ≡ numbers.placeOfWritten (whole.writtenOf (vault.openedIn (now (t .entry)) (now (file .entry)) (length (now (out .entry))))) ⌝ }
 {
     let key = *t;
     let answer = vault::open(file, key, out);
+    *place = answer.place();
     match answer {
         Written::Wrote(n) => {
             *count = n;
-            *place = 0;
             return 0;
         }
-        Written::Refused(r) => {
-            *place = r.place();
-            return r.number();
-        }
-    }
-}
-
-// The place of a refusal.
-pub(crate) fn place_of(o: Outcome) -> usize
-    ensures { λ r. ⌜ r ≡ lent.outcomePlace o ⌝ }
-{
-    match o {
-        Outcome::Accepted => 0,
-        Outcome::Refused(r) => r.place(),
+        Written::Refused(r) => return r.number(),
     }
 }
 
@@ -74,7 +60,7 @@ pub extern "C" fn kdbx4_start(
     place: &mut usize,
 ) -> u8
     ensures { λ r. ⌜ r ≡ numbers.ofOutcome (vault.outcomeOf (vault.start (now (t .entry)) (now (file .entry)))) ⌝ }
-    ensures { λ _. ⌜ now (place .exit) ≡ lent.outcomePlace (vault.outcomeOf (vault.start (now (t .entry)) (now (file .entry)))) ⌝ }
+    ensures { λ _. ⌜ now (place .exit) ≡ numbers.placeOfOutcome (vault.outcomeOf (vault.start (now (t .entry)) (now (file .entry)))) ⌝ }
     ensures { λ _. ⌜ now (state .exit) ≡ openerState.packed (vault.stateOf (vault.start (now (t .entry)) (now (file .entry)))) ⌝ }
 {
     let key = *t;
@@ -82,7 +68,7 @@ pub extern "C" fn kdbx4_start(
     let outcome = s.outcome;
     let next = s.next;
     *state = opener_state::pack(next);
-    *place = place_of(outcome);
+    *place = outcome.place();
     outcome.number()
 }
 

@@ -3,13 +3,15 @@
 //
 //   ID, size, value | ID, size, value | … | 00, 0 | document
 //
-// The contracts cite specs/InnerHeader, and specs/Tally for what is kept of the fields. Values are told by their places
-// in the payload, and nothing is copied. Fields may come in any order. Refusals: 1; of each field 2, 7, 6, 5, 2; 8, 9;
-// and 8 for an attachment index past the last. Each operation walks over the fields once.
+// The contracts cite specs/InnerHeader, specs/Answers for what an answer says, and specs/Tally for what is kept of the
+// fields. Values are told by their places in the payload, and nothing is copied. Fields may come in any order.
+// Refusals: 1; of each field 2, 7, 6, 5, 2; 8, 9; and 8 for an attachment index past the last. Each operation walks
+// over the fields once.
 ghost use mathlib.Core.Path.{_≡_};
 ghost use Prim.Native.Nat.{_<_};
 ghost use lib.ListN.{length};
 ghost use Rattle.inner_header.specs.InnerHeader as kdbx4;
+ghost use Rattle.inner_header.specs.Answers as answers;
 ghost use Rattle.inner_header.specs.Tally as tally;
 use fields::Field;
 use fields::Place;
@@ -38,6 +40,77 @@ pub enum Read {
 pub enum Attachment {
     At(u8, Place),
     Refused(Refusal),
+}
+
+impl Read {
+    // The number of the answer: 0 is success.
+    pub fn number(self) -> u8
+        ensures { λ r. ⌜ r ≡ answers.saidRead self .number ⌝ }
+    {
+        match self {
+            Read::Header(_) => 0,
+            Read::Refused(r) => r.number(),
+        }
+    }
+
+    // The place of a refusal: 0 on success.
+    pub fn place(self) -> usize
+        ensures { λ r. ⌜ r ≡ answers.saidRead self .place ⌝ }
+    {
+        match self {
+            Read::Header(_) => 0,
+            Read::Refused(r) => r.place(),
+        }
+    }
+
+    // The algorithm, the key's start and length, how many attachments there are, the document's start: zeros on a
+    // refusal.
+    pub fn values(self) -> [u64; 5]
+        ensures { λ r. ⌜ r ≡ answers.saidRead self .values ⌝ }
+    {
+        match self {
+            Read::Header(h) => [
+                h.algorithm as u64,
+                h.key.start as u64,
+                h.key.length as u64,
+                h.attachments as u64,
+                h.document as u64,
+            ],
+            Read::Refused(_) => [0u64; 5],
+        }
+    }
+}
+
+impl Attachment {
+    // The number of the answer: 0 is success.
+    pub fn number(self) -> u8
+        ensures { λ r. ⌜ r ≡ answers.saidAttachment self .number ⌝ }
+    {
+        match self {
+            Attachment::At(_, _) => 0,
+            Attachment::Refused(r) => r.number(),
+        }
+    }
+
+    // The place of a refusal: 0 on success.
+    pub fn place(self) -> usize
+        ensures { λ r. ⌜ r ≡ answers.saidAttachment self .place ⌝ }
+    {
+        match self {
+            Attachment::At(_, _) => 0,
+            Attachment::Refused(r) => r.place(),
+        }
+    }
+
+    // The flags, and the start and the length of the content: zeros on a refusal.
+    pub fn values(self) -> [u64; 3]
+        ensures { λ r. ⌜ r ≡ answers.saidAttachment self .values ⌝ }
+    {
+        match self {
+            Attachment::At(flags, p) => [flags as u64, p.start as u64, p.length as u64],
+            Attachment::Refused(_) => [0u64; 3],
+        }
+    }
 }
 
 // What is kept of the fields that were met. An absent field has the start 0, where no value stands; so has the
@@ -214,6 +287,7 @@ fn judge(s: &[u8], index: usize) -> Counted
 // Reads an inner header.
 pub fn read_header(payload: &[u8]) -> Read
     ensures { λ r. ⌜ r ≡ kdbx4.inner (now (payload .entry)) ⌝ }
+    ensures { λ r. ⌜ answers.saidRead r ≡ answers.saidRead (kdbx4.inner (now (payload .entry))) ⌝ }
 {
     match judge(payload, 0) {
         Counted::Refused(r) => return Read::Refused(r),
@@ -232,6 +306,7 @@ pub fn read_header(payload: &[u8]) -> Read
 // An attachment, counted from 0.
 pub fn find_attachment(payload: &[u8], index: usize) -> Attachment
     ensures { λ r. ⌜ r ≡ kdbx4.attachment (now (payload .entry)) index ⌝ }
+    ensures { λ r. ⌜ answers.saidAttachment r ≡ answers.saidAttachment (kdbx4.attachment (now (payload .entry)) index) ⌝ }
 {
     match judge(payload, index) {
         Counted::Refused(r) => return Attachment::Refused(r),

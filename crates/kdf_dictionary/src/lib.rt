@@ -1,12 +1,13 @@
 // The KDF dictionary of an outer header (document 01, "Header"; document 02, Items 3 and 6): what it asks for. Writing
 // is `writer`.
 //
-// The contracts cite specs/KdfDictionary. Refusals: 10 and 6 for the dictionary itself, then for its items 10 and 9 of
-// the identifier; of AES-KDF 10, 11 and 20; of Argon2 10, 9 and 22.
+// The contracts cite specs/KdfDictionary, and specs/Answers for what an answer says. Refusals: 10 and 6 for the
+// dictionary itself, then for its items 10 and 9 of the identifier; of AES-KDF 10, 11 and 20; of Argon2 10, 9 and 22.
 ghost use mathlib.Core.Path.{_≡_};
 ghost use Prim.Native.Nat.{_+_, _^_, _<_, _≤_};
 ghost use lib.ListN.{length};
 ghost use Rattle.kdf_dictionary.specs.KdfDictionary as kdbx4;
+ghost use Rattle.kdf_dictionary.specs.Answers as answers;
 use dictionary::Found;
 use dictionary::Verdict;
 use fields::Place;
@@ -99,6 +100,66 @@ pub enum Kdf {
 pub enum Reading {
     Asks(Kdf),
     Refused(Refusal),
+}
+
+impl Kdf {
+    // Which KDF (0 AES-KDF, 1 Argon2d, 2 Argon2id), start and length of its seed or salt, rounds or passes, memory,
+    // lanes.
+    pub fn values(self) -> [u64; 6]
+        ensures { λ r. ⌜ r ≡ answers.kdfValues self ⌝ }
+    {
+        match self {
+            Kdf::AesKdf(k) => [0, k.seed.start as u64, k.seed.length as u64, k.rounds, 0, 0],
+            Kdf::Argon2d(k) => [
+                1,
+                k.salt.start as u64,
+                k.salt.length as u64,
+                k.passes,
+                k.memory,
+                k.lanes as u64,
+            ],
+            Kdf::Argon2id(k) => [
+                2,
+                k.salt.start as u64,
+                k.salt.length as u64,
+                k.passes,
+                k.memory,
+                k.lanes as u64,
+            ],
+        }
+    }
+}
+
+impl Reading {
+    // The number of the answer: 0 is success.
+    pub fn number(self) -> u8
+        ensures { λ r. ⌜ r ≡ answers.said self .number ⌝ }
+    {
+        match self {
+            Reading::Asks(_) => 0,
+            Reading::Refused(r) => r.number(),
+        }
+    }
+
+    // The place of a refusal: 0 on success.
+    pub fn place(self) -> usize
+        ensures { λ r. ⌜ r ≡ answers.said self .place ⌝ }
+    {
+        match self {
+            Reading::Asks(_) => 0,
+            Reading::Refused(r) => r.place(),
+        }
+    }
+
+    // The values of the KDF that is asked for: zeros on a refusal.
+    pub fn values(self) -> [u64; 6]
+        ensures { λ r. ⌜ r ≡ answers.said self .values ⌝ }
+    {
+        match self {
+            Reading::Asks(k) => k.values(),
+            Reading::Refused(_) => [0u64; 6],
+        }
+    }
 }
 
 // Which of the two forms of Argon2.
@@ -425,6 +486,7 @@ fn uuid_of(d: &[u8], p: Place) -> Reading
 // What the KDF dictionary at a place of a file asks for, or why it is refused.
 pub fn read(s: &[u8], p: Place) -> Reading
     ensures { λ r. ⌜ r ≡ kdbx4.kdfOf (now (s .entry)) p ⌝ }
+    ensures { λ r. ⌜ answers.said r ≡ answers.said (kdbx4.kdfOf (now (s .entry)) p) ⌝ }
 {
     let d = slices::part(s, p.start, p.length);
     match dictionary::check(d) {

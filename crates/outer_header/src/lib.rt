@@ -2,10 +2,12 @@
 //
 //   signatures, version | ID, size, value | ID, size, value | … | 00, 4, 0D 0A 0D 0A
 //
-// The contracts cite specs/Kdbx4Header. Values are told by their places in the file, and nothing is copied.
-// Refusals: 1 to 11, 20 and 22, in the order of documents 01 and 02; fields may come in any order.
+// The contracts cite specs/Kdbx4Header, and specs/Answers for what an answer says. Values are told by their places in
+// the file, and nothing is copied. Refusals: 1 to 11, 20 and 22, in the order of documents 01 and 02; fields may come
+// in any order.
 ghost use mathlib.Core.Path.{_≡_};
 ghost use Rattle.outer_header.specs.Kdbx4Header as kdbx4;
+ghost use Rattle.outer_header.specs.Answers as answers;
 use ciphers::Cipher;
 use ciphers::Identified;
 use dictionary::Verdict;
@@ -34,6 +36,69 @@ pub struct Header {
 pub enum Reading {
     Header(Header),
     Refused(Refusal),
+}
+
+impl Header {
+    // Minor version, cipher, length; start and length of seed, nonce, KDF dictionary and custom dictionary; the KDF's
+    // values.
+    pub fn values(self) -> [u64; 17]
+        ensures { λ r. ⌜ r ≡ answers.valuesOf self ⌝ }
+    {
+        let c = self.cipher;
+        let kdf = self.kdf;
+        let k = kdf.values();
+        [
+            self.minor as u64,
+            c.number() as u64,
+            self.length as u64,
+            self.seed.start as u64,
+            self.seed.length as u64,
+            self.nonce.start as u64,
+            self.nonce.length as u64,
+            self.kdf_dictionary.start as u64,
+            self.kdf_dictionary.length as u64,
+            self.custom.start as u64,
+            self.custom.length as u64,
+            k[0],
+            k[1],
+            k[2],
+            k[3],
+            k[4],
+            k[5],
+        ]
+    }
+}
+
+impl Reading {
+    // The number of the answer: 0 is success.
+    pub fn number(self) -> u8
+        ensures { λ r. ⌜ r ≡ answers.said self .number ⌝ }
+    {
+        match self {
+            Reading::Header(_) => 0,
+            Reading::Refused(r) => r.number(),
+        }
+    }
+
+    // The place of a refusal: 0 on success.
+    pub fn place(self) -> usize
+        ensures { λ r. ⌜ r ≡ answers.said self .place ⌝ }
+    {
+        match self {
+            Reading::Header(_) => 0,
+            Reading::Refused(r) => r.place(),
+        }
+    }
+
+    // The values of the header: zeros on a refusal.
+    pub fn values(self) -> [u64; 17]
+        ensures { λ r. ⌜ r ≡ answers.said self .values ⌝ }
+    {
+        match self {
+            Reading::Header(h) => h.values(),
+            Reading::Refused(_) => [0u64; 17],
+        }
+    }
 }
 
 // Whether every required field is there.
@@ -159,6 +224,7 @@ fn body(s: &[u8], minor: u8) -> Reading
 // The header of a file, or why it is refused.
 pub fn read(s: &[u8]) -> Reading
     ensures { λ r. ⌜ r ≡ kdbx4.header (now (s .entry)) ⌝ }
+    ensures { λ r. ⌜ answers.said r ≡ answers.said (kdbx4.header (now (s .entry))) ⌝ }
 {
     if refusals::limits::file_fits(s.len()) {
         if s.len() < 12 {

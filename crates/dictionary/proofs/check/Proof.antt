@@ -4,6 +4,8 @@ use native.Mathlib.Omega.{arith}
 use denote.Ref.{now}
 use lib.ListN.{length}
 use borrow.Author.Tests.{lt-ltb, le-ltb, ne-eqb}
+use Rattle.refusals.proofs.Laws.Numbers.{said-too}
+use Rattle.dictionary.specs.Answers.{saidVerdict}
 use borrow.Author.Needs.{needs}
 use Rattle.dictionary.specs.Dictionary.{verdict}
 use Rattle.dictionary.proofs.Laws.Judge.{filled-done}
@@ -13,11 +15,11 @@ use Rattle.dictionary.proofs.check.Tie as tie
 
 returns : tie.Need-returns
 unfolding verdict
-returns c = rw (lt-ltb _ _ (c .if1 .taken))
+returns c = said-too saidVerdict (rw (lt-ltb _ _ (c .if1 .taken)))
 
 returns-2 : tie.Need-returns-2
 unfolding verdict
-returns-2 c = rw (le-ltb _ _ (c .before .before .if1 .left), ne-eqb _ _ (c .if2 .taken))
+returns-2 c = said-too saidVerdict (rw (le-ltb _ _ (c .before .before .if1 .left), ne-eqb _ _ (c .if2 .taken)))
 
 returns-3 : tie.Need-returns-3
 returns-3 c =
@@ -26,16 +28,21 @@ returns-3 c =
     let t = f .before .before in
     let b = t .before .before .before in
     let s = now (b .before .args .s) in
-    filled-done s 2 (length s) (f .fill .last .1 .1 .1 .0) (f .fill .result) (o .o .given .0 .0) (f .fill .ensures) (o .o .given .1)
-    ∙ verdict-judge s (λ k. omega (arith, b .shared-slice-known .given k)) (t .before .before .if1 .left) (t .if2 .left)
+    said-too saidVerdict
+    (filled-done s 2 (length s) (f .fill .last .1 .1 .1 .0) (f .fill .result) (o .o .given .0 .0)
+    (f .fill .ensures) (o .o .given .1)
+    ∙ verdict-judge s (λ k. omega (arith, b .shared-slice-known .given k))
+    (t .before .before .if1 .left) (t .if2 .left))
 
 returns-4 : tie.Need-returns-4
 returns-4 c =
     let t = c .before .before .before .before .before .before in
     let b = t .before .before .before in
     let s = now (b .before .args .s) in
-    c .judge .ensures
-    ∙ verdict-judge s (λ k. omega (arith, b .shared-slice-known .given k)) (t .before .before .if1 .left) (t .if2 .left)
+    said-too saidVerdict
+    (c .judge .ensures
+    ∙ verdict-judge s (λ k. omega (arith, b .shared-slice-known .given k))
+    (t .before .before .if1 .left) (t .if2 .left))
 
 pub check-spec : {M : Type 1} → statement M
 check-spec =

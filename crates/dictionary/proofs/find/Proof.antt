@@ -1,20 +1,24 @@
 -- `dictionary::find` meets its contract. Assumes nothing.
 use Rattle.dictionary.specs.Dictionary.{findIn, find}
+use Rattle.refusals.proofs.Laws.Numbers.{said-too}
+use Rattle.dictionary.specs.Answers.{saidFound}
 use borrow.Author.Needs.{needs}
 use Rattle.dictionary.proofs.find.Statement.{statement}
 use Rattle.dictionary.proofs.find.Tie as tie
 
 returns : tie.Need-returns
 unfolding find findIn
-returns c = rw (← c .before .before .before .check .ensures, c .before .enum-told .given .1) (c .search-sound .ensures)
+returns c =
+    said-too saidFound
+    (rw (← c .before .before .before .check .ensures .0, c .before .enum-told .given .1) (c .search-sound .ensures))
 
 returns-2 : tie.Need-returns-2
 unfolding find findIn
-returns-2 c = rw (← c .before .before .before .check .ensures, c .before .at .given .1)
+returns-2 c = said-too saidFound (rw (← c .before .before .before .check .ensures .0, c .before .at .given .1))
 
 returns-3 : tie.Need-returns-3
 unfolding find findIn
-returns-3 c = rw (← c .before .before .before .check .ensures, c .before .at2 .given .1)
+returns-3 c = said-too saidFound (rw (← c .before .before .before .check .ensures .0, c .before .at2 .given .1))
 
 pub find-spec : {M : Type 1} → statement M
 find-spec =

@@ -10,7 +10,7 @@ returns c =
     let k = c .before .before in
     let f = k .before .before in
     let a = f .before .before .before .args in
-    looked-at (a .d) (a .name) (c .stretch .result) _ _ _ (sym (f .find .ensures) ∙ k .k .given .1)
+    looked-at (a .d) (a .name) (c .stretch .result) _ _ _ (sym (f .find .ensures .0) ∙ k .k .given .1)
     (c .stretch .ensures)
 
 returns-2 : tie.Need-returns-2
@@ -18,7 +18,7 @@ returns-2 c =
     let k = c .before in
     let f = k .before .before in
     let a = f .before .before .before .args in
-    looked-absent (a .d) (a .name) (c .stretch2 .result) (sym (f .find .ensures) ∙ k .enum-told .given .1)
+    looked-absent (a .d) (a .name) (c .stretch2 .result) (sym (f .find .ensures .0) ∙ k .enum-told .given .1)
     (c .stretch2 .ensures)
 
 returns-3 : tie.Need-returns-3
@@ -28,7 +28,7 @@ returns-3 c =
     let k = n .before .before in
     let f = k .before .before in
     let a = f .before .before .before .args in
-    looked-refused (a .d) (a .name) (c .stretch3 .result) _ (sym (f .find .ensures) ∙ k .r .given .1)
+    looked-refused (a .d) (a .name) (c .stretch3 .result) _ (sym (f .find .ensures .0) ∙ k .r .given .1)
     (n .number .ensures) (p .place .ensures) (c .stretch3 .ensures)
 
 pub lookup-spec : {M : Type 1} → statement M

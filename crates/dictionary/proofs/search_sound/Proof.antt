@@ -28,7 +28,7 @@ returns c =
     let a = e .before .before .before .before .before .args in
     let f =
     searchFrom-more (l .left) (now (a .s)) (l .at) (now (a .name)) (e .entry-at .result) (search needs)
-    (e .entry-at .ensures) in
+    (e .entry-at .ensures .0) in
     sym (rw (c .enum-told .given .1) at f) ∙ l .inv
 
 returns-2 : tie.Need-returns-2 Inv-loop μ-loop
@@ -39,7 +39,7 @@ returns-2 c =
     let a = e .before .before .before .before .before .args in
     let f =
     searchFrom-more (l .left) (now (a .s)) (l .at) (now (a .name)) (e .entry-at .result) (search needs)
-    (e .entry-at .ensures) in
+    (e .entry-at .ensures .0) in
     sym (rw (c .enum-told2 .given .1) at f) ∙ l .inv
 
 returns-3 : tie.Need-returns-3 Inv-loop μ-loop
@@ -52,7 +52,7 @@ returns-3 c =
     let a = e .before .before .before .before .before .args in
     let f =
     searchFrom-more (l .left) (now (a .s)) (l .at) (now (a .name)) (e .entry-at .result) (search needs)
-    (e .entry-at .ensures) in
+    (e .entry-at .ensures .0) in
     sym (rw (i .i .given .1, ← p .part .ensures, ← c .before .same .ensures, c .if1 .taken) at f) ∙ l .inv
 
 add-at : tie.Need-add-at Inv-loop μ-loop
@@ -62,7 +62,7 @@ add-at c =
     let l = e .before .before .loop in
     let a = e .before .before .before .before .before .args in
     let g = i .i .given in
-    let w = entryAt-within (now (a .s)) (l .at) (g .0 .0) (sym (e .entry-at .ensures) ∙ g .1) in
+    let w = entryAt-within (now (a .s)) (l .at) (g .0 .0) (sym (e .entry-at .ensures .0) ∙ g .1) in
     search needs
 
 loop-again : tie.Need-loop-again Inv-loop μ-loop
@@ -75,7 +75,7 @@ loop-again c =
     let a = e .before .before .before .before .before .args in
     let f =
     searchFrom-more (l .left) (now (a .s)) (l .at) (now (a .name)) (e .entry-at .result) (search needs)
-    (e .entry-at .ensures) in
+    (e .entry-at .ensures .0) in
     let q = c .before .before in
     sym (rw (i .i .given .1, ← p .part .ensures, ← q .same .ensures, c .before .if1 .left) at f) ∙ l .inv
 

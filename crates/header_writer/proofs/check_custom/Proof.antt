@@ -14,19 +14,19 @@ returns-2 : tie.Need-returns-2
 unfolding customVerdict customIn checkedCustom
 returns-2 c =
     let at-check = c .before .before in
-    rw (ne-eqb _ 0 (at-check .before .if1 .left), sym (at-check .check .ensures) ∙ c .enum-told .given .1)
+    rw (ne-eqb _ 0 (at-check .before .if1 .left), sym (at-check .check .ensures .0) ∙ c .enum-told .given .1)
 
 returns-3 : tie.Need-returns-3
 unfolding customVerdict customIn checkedCustom
 returns-3 c =
     let at-check = c .before .before in
-    rw (ne-eqb _ 0 (at-check .before .if1 .left), sym (at-check .check .ensures) ∙ c .enum-told2 .given .1)
+    rw (ne-eqb _ 0 (at-check .before .if1 .left), sym (at-check .check .ensures .0) ∙ c .enum-told2 .given .1)
 
 returns-4 : tie.Need-returns-4
 unfolding customVerdict customIn checkedCustom
 returns-4 c =
     let at-check = c .before .before in
-    rw (ne-eqb _ 0 (at-check .before .if1 .left), sym (at-check .check .ensures) ∙ c .enum-told3 .given .1)
+    rw (ne-eqb _ 0 (at-check .before .if1 .left), sym (at-check .check .ensures .0) ∙ c .enum-told3 .given .1)
 
 pub check-custom-spec : {M : Type 1} → statement M
 check-custom-spec =

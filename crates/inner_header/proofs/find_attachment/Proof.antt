@@ -8,6 +8,8 @@ use Rattle.inner_header.proofs.Laws.Opened.{
   attachmentOf-past,
   asked-within,
 }
+use Rattle.refusals.proofs.Laws.Numbers.{said-too}
+use Rattle.inner_header.specs.Answers.{saidAttachment}
 use borrow.Author.Needs.{needs}
 use Rattle.inner_header.proofs.find_attachment.Statement.{statement}
 use Rattle.inner_header.proofs.find_attachment.Tie as tie
@@ -19,7 +21,7 @@ returns c =
     let a = w .before .before .args in
     let s = now (a .payload) in
     let g = c .before .r .given in
-    attachmentOf-refused (a .index) s (opened s) (g .0 .0) (sym (g .1) ∙ w .judge .ensures)
+    said-too saidAttachment (attachmentOf-refused (a .index) s (opened s) (g .0 .0) (sym (g .1) ∙ w .judge .ensures))
 
 add-start : tie.Need-add-start
 add-start c =
@@ -48,10 +50,11 @@ returns-2 c =
     let a = w .before .before .args in
     let s = now (a .payload) in
     let g = c .before .before .before .before .before .before .t .given in
-    attachmentOf-shown (a .index) s (opened s) (g .0 .0) (g .0 .1 .0) (c .byte-at .result)
+    said-too saidAttachment
+    (attachmentOf-shown (a .index) s (opened s) (g .0 .0) (g .0 .1 .0) (c .byte-at .result)
     (sym (g .1) ∙ w .judge .ensures)
     (c .before .before .before .if1 .taken)
-    (c .byte-at .ensures)
+    (c .byte-at .ensures))
 
 returns-3 : tie.Need-returns-3
 unfolding attachment
@@ -61,8 +64,9 @@ returns-3 c =
     let a = w .before .before .args in
     let s = now (a .payload) in
     let g = q .before .before .before .t .given in
-    rw (c .end-field .ensures)
-    (attachmentOf-past (a .index) s (opened s) (g .0 .0) (g .0 .1 .0) (sym (g .1) ∙ w .judge .ensures) (q .if1 .left))
+    said-too saidAttachment
+    (rw (c .end-field .ensures)
+    (attachmentOf-past (a .index) s (opened s) (g .0 .0) (g .0 .1 .0) (sym (g .1) ∙ w .judge .ensures) (q .if1 .left)))
 
 pub find-attachment-spec : {M : Type 1} → statement M
 find-attachment-spec =

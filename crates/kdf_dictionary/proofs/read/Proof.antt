@@ -8,6 +8,8 @@ use denote.Ref.{now}
 use lib.ListN.{length, take, drop, length-take, length-drop}
 use Rattle.dictionary.proofs.Laws.Within.{part-end-lt, broken-lt, repeated-lt}
 use Rattle.kdf_dictionary.specs.KdfDictionary.{kdfIn, kdfOf}
+use Rattle.refusals.proofs.Laws.Numbers.{said-too}
+use Rattle.kdf_dictionary.specs.Answers.{said}
 use borrow.Author.Needs.{needs}
 use Rattle.kdf_dictionary.proofs.read.Statement.{statement}
 use Rattle.kdf_dictionary.proofs.read.Tie as tie
@@ -18,7 +20,7 @@ add-t7 c =
     let v = g .before .before in
     let a = v .before .before .before .args in
     let l = broken-lt (a .p .length) (a .p .start) (now (a .s)) (now (v .before .part .result)) (v .check .result)
-    (g .at .given .0 .0) (2 ^ 64) (v .before .part .ensures) (v .check .ensures) (g .at .given .1)
+    (g .at .given .0 .0) (2 ^ 64) (v .before .part .ensures) (v .check .ensures .0) (g .at .given .1)
     (search needs) (search needs) in
     search needs
 
@@ -27,7 +29,7 @@ unfolding kdfOf kdfIn
 returns c =
     let g = c .before .before in
     let v = g .before .before in
-    rw (← v .before .part .ensures, ← v .check .ensures, g .at .given .1)
+    said-too said (rw (← v .before .part .ensures, ← v .check .ensures .0, g .at .given .1))
 
 add-t9 : tie.Need-add-t9
 add-t9 c =
@@ -35,7 +37,7 @@ add-t9 c =
     let v = g .before .before in
     let a = v .before .before .before .args in
     let l = repeated-lt (a .p .length) (a .p .start) (now (a .s)) (now (v .before .part .result)) (v .check .result)
-    (g .at2 .given .0 .0) (2 ^ 64) (v .before .part .ensures) (v .check .ensures) (g .at2 .given .1)
+    (g .at2 .given .0 .0) (2 ^ 64) (v .before .part .ensures) (v .check .ensures .0) (g .at2 .given .1)
     (search needs) (search needs) in
     search needs
 
@@ -44,7 +46,7 @@ unfolding kdfOf kdfIn
 returns-2 c =
     let g = c .before .before in
     let v = g .before .before in
-    rw (← v .before .part .ensures, ← v .check .ensures, g .at2 .given .1)
+    said-too said (rw (← v .before .part .ensures, ← v .check .ensures .0, g .at2 .given .1))
 
 uuid-of-requires : tie.Need-uuid-of-requires
 uuid-of-requires c κs =
@@ -56,7 +58,8 @@ returns-3 : tie.Need-returns-3
 unfolding kdfOf kdfIn
 returns-3 c =
     let v = c .before .before .before in
-    rw (← v .before .part .ensures, ← v .check .ensures, c .before .enum-told .given .1) (c .uuid-of .ensures)
+    said-too said
+    (rw (← v .before .part .ensures, ← v .check .ensures .0, c .before .enum-told .given .1) (c .uuid-of .ensures))
 
 pub read-spec : {M : Type 1} → statement M
 read-spec =

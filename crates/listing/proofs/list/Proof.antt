@@ -12,10 +12,10 @@ returns c =
     let q = m .before .before .before .before in
     let s = now (q .before .before .before .args .s) in
     rw (text-refused s _ (sym (q .program-input-fits .ensures) ∙ m .before .before .before .if1 .taken)
-    (sym (m .before .before .read .ensures) ∙ m .r .given .1)) (c .before .before .list-refusal .ensures)
+    (sym (m .before .before .read .ensures .0) ∙ m .r .given .1)) (c .before .before .list-refusal .ensures)
 
 list-frames-requires : tie.Need-list-frames-requires
-list-frames-requires c κs = sym (c .before .before .before .before .read .ensures) ∙ c .before .before .h .given .1
+list-frames-requires c κs = sym (c .before .before .before .before .read .ensures .0) ∙ c .before .before .h .given .1
 
 returns-2 : tie.Need-returns-2
 returns-2 c =
@@ -23,7 +23,7 @@ returns-2 c =
     let q = m .before .before .before .before in
     let s = now (q .before .before .before .args .s) in
     rw (text-listed s _ (sym (q .program-input-fits .ensures) ∙ m .before .before .before .if1 .taken)
-    (sym (m .before .before .read .ensures) ∙ m .h .given .1)) (c .before .before .list-frames .ensures)
+    (sym (m .before .before .read .ensures .0) ∙ m .h .given .1)) (c .before .before .list-frames .ensures)
 
 returns-3 : tie.Need-returns-3
 returns-3 c =

@@ -16,7 +16,12 @@ returns : tie.Need-returns
 unfolding customOf customIn
 returns c =
     let v = c .before .before in
-    rw (ne-eqb _ 0 (v .before .before .if1 .taken), ← v .before .part .ensures, ← v .check .ensures, c .enum-told .given .1)
+    rw (
+      ne-eqb _ 0 (v .before .before .if1 .taken),
+      ← v .before .part .ensures,
+      ← v .check .ensures .0,
+      c .enum-told .given .1,
+    )
 
 add-t8 : tie.Need-add-t8
 add-t8 c =
@@ -24,7 +29,7 @@ add-t8 c =
     let v = g .before .before in
     let a = v .before .before .before .before .before .args in
     let l = broken-lt (a .p .length) (a .p .start) (now (a .s)) (now (v .before .part .result)) (v .check .result)
-    (g .at .given .0 .0) (2 ^ 64) (v .before .part .ensures) (v .check .ensures) (g .at .given .1)
+    (g .at .given .0 .0) (2 ^ 64) (v .before .part .ensures) (v .check .ensures .0) (g .at .given .1)
     (search needs) (search needs) in
     search needs
 
@@ -33,7 +38,12 @@ unfolding customOf customIn
 returns-2 c =
     let g = c .before .before in
     let v = g .before .before in
-    rw (ne-eqb _ 0 (v .before .before .if1 .taken), ← v .before .part .ensures, ← v .check .ensures, g .at .given .1)
+    rw (
+      ne-eqb _ 0 (v .before .before .if1 .taken),
+      ← v .before .part .ensures,
+      ← v .check .ensures .0,
+      g .at .given .1,
+    )
 
 add-t10 : tie.Need-add-t10
 add-t10 c =
@@ -41,7 +51,7 @@ add-t10 c =
     let v = g .before .before in
     let a = v .before .before .before .before .before .args in
     let l = repeated-lt (a .p .length) (a .p .start) (now (a .s)) (now (v .before .part .result)) (v .check .result)
-    (g .at2 .given .0 .0) (2 ^ 64) (v .before .part .ensures) (v .check .ensures) (g .at2 .given .1)
+    (g .at2 .given .0 .0) (2 ^ 64) (v .before .part .ensures) (v .check .ensures .0) (g .at2 .given .1)
     (search needs) (search needs) in
     search needs
 
@@ -50,7 +60,12 @@ unfolding customOf customIn
 returns-3 c =
     let g = c .before .before in
     let v = g .before .before in
-    rw (ne-eqb _ 0 (v .before .before .if1 .taken), ← v .before .part .ensures, ← v .check .ensures, g .at2 .given .1)
+    rw (
+      ne-eqb _ 0 (v .before .before .if1 .taken),
+      ← v .before .part .ensures,
+      ← v .check .ensures .0,
+      g .at2 .given .1,
+    )
 
 returns-4 : tie.Need-returns-4
 unfolding customOf

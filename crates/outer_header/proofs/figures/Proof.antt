@@ -7,14 +7,14 @@ use Rattle.outer_header.proofs.figures.Tie as tie
 
 returns : tie.Need-returns
 unfolding figures figuresIn
-returns c = rw (sym (c .before .before .before .read .ensures) ∙ c .before .r .given .1)
+returns c = rw (sym (c .before .before .before .read .ensures .0) ∙ c .before .r .given .1)
 
 returns-2 : tie.Need-returns-2
 unfolding figures figuresIn
 returns-2 c =
     let k = c .before .before .before .before .before in
     rw (
-      sym (k .before .before .read .ensures) ∙ k .kdf .given .1,
+      sym (k .before .before .read .ensures .0) ∙ k .kdf .given .1,
       sym (c .before .before .before .custom-of .ensures) ∙ c .before .x .given .1,
     )
 
@@ -23,7 +23,7 @@ unfolding figures figuresIn
 returns-3 c =
     let k = c .before .before .before .before .before .before in
     rw (
-      sym (k .before .before .read .ensures) ∙ k .kdf .given .1,
+      sym (k .before .before .read .ensures .0) ∙ k .kdf .given .1,
       sym (c .before .before .before .before .custom-of .ensures) ∙ c .before .before .enum-told .given .1,
     )
 

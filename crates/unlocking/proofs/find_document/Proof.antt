@@ -6,10 +6,10 @@ use Rattle.unlocking.proofs.find_document.Statement.{statement}
 use Rattle.unlocking.proofs.find_document.Tie as tie
 
 returns : tie.Need-returns
-returns c = document-refused _ _ _ (sym (c .before .before .before .read-header .ensures) ∙ c .before .r .given .1)
+returns c = document-refused _ _ _ (sym (c .before .before .before .read-header .ensures .0) ∙ c .before .r .given .1)
 
 returns-2 : tie.Need-returns-2
-returns-2 c = document-found _ _ _ (sym (c .before .before .before .read-header .ensures) ∙ c .before .i .given .1)
+returns-2 c = document-found _ _ _ (sym (c .before .before .before .read-header .ensures .0) ∙ c .before .i .given .1)
 
 pub find-document-spec : {M : Type 1} → statement M
 find-document-spec =

@@ -13,12 +13,12 @@ returns c =
     let a = x .before .before .before .before .args in
     let d = now (a .out) in
     by-refused _ (a .composite) (now (a .f)) d (now (a .memory)) (length d) _
-    (sym (x .read .ensures) ∙ c .before .r .given .1)
+    (sym (x .read .ensures .0) ∙ c .before .r .given .1)
 
 open-with-requires : tie.Need-open-with-requires
 open-with-requires c κs =
     let h = c .before .before .before in
-    sym (h .before .before .read .ensures) ∙ h .h .given .1
+    sym (h .before .before .read .ensures .0) ∙ h .h .given .1
 
 returns-2 : tie.Need-returns-2
 returns-2 c =
@@ -28,7 +28,8 @@ returns-2 c =
     let a = x .before .before .before .before .args in
     let d = now (a .out) in
     shows-same _ _ d _ _ _ (o .open-with .ensures)
-    (by-read _ (a .composite) (now (a .f)) d (now (a .memory)) (length d) _ (sym (x .read .ensures) ∙ h .h .given .1))
+    (by-read _ (a .composite) (now (a .f)) d (now (a .memory)) (length d) _
+    (sym (x .read .ensures .0) ∙ h .h .given .1))
 
 pub open-by-spec : {M : Type 1} → statement M
 open-by-spec =

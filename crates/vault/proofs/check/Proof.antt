@@ -14,18 +14,18 @@ returns : tie.Need-returns
 unfolding start startIn
 returns c =
     let r = c .before .before in
-    rw (sym (r .before .before .read .ensures) ∙ r .r .given .1) (c .refuse .ensures)
+    rw (sym (r .before .before .read .ensures .0) ∙ r .r .given .1) (c .refuse .ensures)
 
 keys-of-requires : tie.Need-keys-of-requires
 keys-of-requires c κs =
     let h = c .before in
-    sym (h .before .before .read .ensures) ∙ h .h .given .1
+    sym (h .before .before .read .ensures .0) ∙ h .h .given .1
 
 check-at-requires : tie.Need-check-at-requires
 check-at-requires c κs =
     let h = c .before .before in
     let st = h .before .before .before .before in
-    let e = sym (h .before .before .read .ensures) ∙ h .h .given .1 in
+    let e = sym (h .before .before .read .ensures .0) ∙ h .h .given .1 in
     let s = header-stands (now (st .args .f)) _ e in
     (s .length-le, s .file-le)
 
@@ -34,7 +34,7 @@ unfolding start startIn
 returns-2 c =
     let h = c .before .before .before in
     let st = h .before .before .before .before in
-    rw (sym (h .before .before .read .ensures) ∙ h .h .given .1)
+    rw (sym (h .before .before .read .ensures .0) ∙ h .h .given .1)
     (c .check-at .ensures
     ∙ ap (λ (k : Keys). checkedOf (startAt (now (st .args .f)) (h .h .given .0 .0 .length) k)) (c .before .keys-of .ensures))
 

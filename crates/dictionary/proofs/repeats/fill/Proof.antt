@@ -34,7 +34,7 @@ returns c =
     let l = e .before .before .loop in
     let a = e .before .before .before .before .before .args in
     judge-end (a .stop) (l .left) (now (a .s)) (held (now (a .s)) (a .from) (l .n) (l .t)) (l .at) (search needs)
-    (sym (e .entry-at .ensures) ∙ c .enum-told .given .1) ∙ l .inv .0
+    (sym (e .entry-at .ensures .0) ∙ c .enum-told .given .1) ∙ l .inv .0
 
 returns-2 : tie.Need-returns-2 Inv-loop μ-loop
 unfolding Filled
@@ -44,7 +44,7 @@ returns-2 c =
     let l = e .before .before .loop in
     let a = e .before .before .before .before .before .args in
     judge-broken (a .stop) (l .left) (now (a .s)) (held (now (a .s)) (a .from) (l .n) (l .t)) (l .at) (search needs)
-    (b .b .given .0 .0) (sym (e .entry-at .ensures) ∙ b .b .given .1) ∙ l .inv .0
+    (b .b .given .0 .0) (sym (e .entry-at .ensures .0) ∙ b .b .given .1) ∙ l .inv .0
 
 returns-3 : tie.Need-returns-3 Inv-loop μ-loop
 unfolding Filled
@@ -54,7 +54,7 @@ returns-3 c =
     let l = e .before .before .loop in
     let a = e .before .before .before .before .before .args in
     judge-stopped (a .stop) (l .left) (now (a .s)) (held (now (a .s)) (a .from) (l .n) (l .t)) (l .at) (search needs)
-    (i .i .given .0 .0) (sym (e .entry-at .ensures) ∙ i .i .given .1) (c .if1 .taken) ∙ l .inv .0
+    (i .i .given .0 .0) (sym (e .entry-at .ensures .0) ∙ i .i .given .1) (c .if1 .taken) ∙ l .inv .0
 
 returns-4 : tie.Need-returns-4 Inv-loop μ-loop
 unfolding Filled
@@ -64,7 +64,7 @@ returns-4 c =
     let l = e .before .before .loop in
     let a = e .before .before .before .before .before in
     let w =
-    entryAt-within (now (a .args .s)) (l .at) (i .i .given .0 .0) (sym (e .entry-at .ensures) ∙ i .i .given .1) in
+    entryAt-within (now (a .args .s)) (l .at) (i .i .given .0 .0) (sym (e .entry-at .ensures .0) ∙ i .i .given .1) in
     record {
       within = omega arith;
       rising = l .inv .1;
@@ -87,7 +87,7 @@ returns-5 c =
     let l = e .before .before .loop in
     let a = e .before .before .before .before .before in
     let w =
-    entryAt-within (now (a .args .s)) (l .at) (i .i .given .0 .0) (sym (e .entry-at .ensures) ∙ i .i .given .1) in
+    entryAt-within (now (a .args .s)) (l .at) (i .i .given .0 .0) (sym (e .entry-at .ensures .0) ∙ i .i .given .1) in
     record {
       within = omega arith;
       rising = l .inv .1;
@@ -106,7 +106,7 @@ add-requires c κs =
     let l = e .before .before .loop in
     let a = e .before .before .before .before .before in
     let w =
-    entryAt-within (now (a .args .s)) (l .at) (i .i .given .0 .0) (sym (e .entry-at .ensures) ∙ i .i .given .1) in
+    entryAt-within (now (a .args .s)) (l .at) (i .i .given .0 .0) (sym (e .entry-at .ensures .0) ∙ i .i .given .1) in
     (omega arith, (omega (arith, w), l .inv .1))
 
 returns-6 : tie.Need-returns-6 Inv-loop μ-loop
@@ -125,7 +125,7 @@ returns-6 c =
     (held (now (a .s)) (a .from) (l .n + 1) (d .add .last .1 .1 .0))
     (d .add .result) (d .add .ensures) (c .if4 .taken) in
     judge-held (a .stop) (l .left) (now (a .s)) ks (l .at) (search needs) (i .i .given .0 .0)
-    (sym (e .entry-at .ensures) ∙ i .i .given .1) u (rw p at f) ∙ l .inv .0
+    (sym (e .entry-at .ensures .0) ∙ i .i .given .1) u (rw p at f) ∙ l .inv .0
 
 add-n : tie.Need-add-n Inv-loop μ-loop
 add-n c = omega arith
@@ -136,7 +136,7 @@ add-at c =
     let e = i .before .before in
     let l = e .before .before .loop in
     let a = e .before .before .before .before .before .args in
-    let w = entryAt-within (now (a .s)) (l .at) (i .i .given .0 .0) (sym (e .entry-at .ensures) ∙ i .i .given .1) in
+    let w = entryAt-within (now (a .s)) (l .at) (i .i .given .0 .0) (sym (e .entry-at .ensures .0) ∙ i .i .given .1) in
     omega (arith, w)
 
 loop-again : tie.Need-loop-again Inv-loop μ-loop
@@ -154,7 +154,7 @@ loop-again c =
     let f =
     added-new (keyAt s (a .from + (l .at - a .from))) ks ls (d .add .result) (d .add .ensures) (c .before .if4 .left) in
     let g = rw p at f in
-    let q = sym (e .entry-at .ensures) ∙ i .i .given .1 in
+    let q = sym (e .entry-at .ensures .0) ∙ i .i .given .1 in
     let w = entryAt-within s (l .at) (i .i .given .0 .0) q in (
       judge-added (a .stop) (l .left) s ks ls (l .at) (i .i .given .0 .0) (search needs) q u (g .0) (g .2) ∙ l .inv .0,
       g .1,

@@ -29,7 +29,7 @@ returns c =
     let l = e .before .before .loop in
     let a = e .before .before .before .before .before .args in
     met-end (a .stop) (l .left) (now (a .s)) (held (now (a .s)) (a .base) (a .n) (now (a .t))) (l .at) (search needs)
-    (sym (e .entry-at .ensures) ∙ c .enum-told .given .1) ∙ l .inv
+    (sym (e .entry-at .ensures .0) ∙ c .enum-told .given .1) ∙ l .inv
 
 returns-2 : tie.Need-returns-2 Inv-loop μ-loop
 returns-2 c =
@@ -37,7 +37,7 @@ returns-2 c =
     let l = e .before .before .loop in
     let a = e .before .before .before .before .before .args in
     met-broken (a .stop) (l .left) (now (a .s)) (held (now (a .s)) (a .base) (a .n) (now (a .t))) (l .at) (search needs)
-    (c .enum-told2 .given .0 .0) (sym (e .entry-at .ensures) ∙ c .enum-told2 .given .1) ∙ l .inv
+    (c .enum-told2 .given .0 .0) (sym (e .entry-at .ensures .0) ∙ c .enum-told2 .given .1) ∙ l .inv
 
 returns-3 : tie.Need-returns-3 Inv-loop μ-loop
 returns-3 c =
@@ -46,7 +46,7 @@ returns-3 c =
     let l = e .before .before .loop in
     let a = e .before .before .before .before .before .args in
     met-stopped (a .stop) (l .left) (now (a .s)) (held (now (a .s)) (a .base) (a .n) (now (a .t))) (l .at) (search needs)
-    (i .i .given .0 .0) (sym (e .entry-at .ensures) ∙ i .i .given .1) (c .if1 .taken) ∙ l .inv
+    (i .i .given .0 .0) (sym (e .entry-at .ensures .0) ∙ i .i .given .1) (c .if1 .taken) ∙ l .inv
 
 locate-requires : tie.Need-locate-requires Inv-loop μ-loop
 locate-requires c κs =
@@ -55,7 +55,7 @@ locate-requires c κs =
     let l = e .before .before .loop in
     let b = e .before .before .before .before .before in
     let g = i .i .given in
-    let w = entryAt-within (now (b .args .s)) (l .at) (g .0 .0) (sym (e .entry-at .ensures) ∙ g .1) in
+    let w = entryAt-within (now (b .args .s)) (l .at) (g .0 .0) (sym (e .entry-at .ensures .0) ∙ g .1) in
     (b .pre .0, (b .pre .1 .0, (omega (arith, w), b .pre .1 .1)))
 
 returns-4 : tie.Need-returns-4 Inv-loop μ-loop
@@ -68,7 +68,7 @@ returns-4 c =
     let a = e .before .before .before .before .before .args in
     let ks = held (now (a .s)) (a .base) (a .n) (now (a .t)) in
     let g = i .i .given in
-    met-held (a .stop) (l .left) (now (a .s)) ks (l .at) (search needs) (g .0 .0) (sym (e .entry-at .ensures) ∙ g .1)
+    met-held (a .stop) (l .left) (now (a .s)) ks (l .at) (search needs) (g .0 .0) (sym (e .entry-at .ensures .0) ∙ g .1)
     (u .if1 .left)
     (located-held ks (keyAt (now (a .s)) (l .at)) (k .locate .result) (k .locate .ensures) (c .enum-told3 .given .1))
     ∙ l .inv
@@ -80,7 +80,7 @@ add-at c =
     let l = e .before .before .loop in
     let a = e .before .before .before .before .before .args in
     let g = i .i .given in
-    let w = entryAt-within (now (a .s)) (l .at) (g .0 .0) (sym (e .entry-at .ensures) ∙ g .1) in
+    let w = entryAt-within (now (a .s)) (l .at) (g .0 .0) (sym (e .entry-at .ensures .0) ∙ g .1) in
     search needs
 
 loop-again : tie.Need-loop-again Inv-loop μ-loop
@@ -94,7 +94,7 @@ loop-again c =
     let ks = held (now (a .s)) (a .base) (a .n) (now (a .t)) in
     let g = i .i .given in
     let f = c .before .enum-told4 .given in
-    met-free (a .stop) (l .left) (now (a .s)) ks (l .at) (search needs) (g .0 .0) (sym (e .entry-at .ensures) ∙ g .1)
+    met-free (a .stop) (l .left) (now (a .s)) ks (l .at) (search needs) (g .0 .0) (sym (e .entry-at .ensures .0) ∙ g .1)
     (u .if1 .left)
     (located-none ks (keyAt (now (a .s)) (l .at)) (f .0 .0) (k .locate .result) (k .locate .ensures) (f .1)) ∙ l .inv
 
