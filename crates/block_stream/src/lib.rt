@@ -3,14 +3,16 @@
 //   tag (32 bytes) | size (Int32) | data
 //
 // `judge` makes a block's checks; `seal` writes the tag and the size before data that stands in a lent slice. The
-// contracts cite specs/Blocks. Refusals: 1, 2, 5, 2 and 14, in this order.
+// contracts cite specs/Blocks, and specs/Answers for what an answer says. Refusals: 1, 2, 5, 2 and 14, in this order.
 ghost use mathlib.Core.Path.{_≡_};
+ghost use mathlib.Core.List.{[], _∷_};
 ghost use Prim.Native.Nat.{_+_, _≤_};
 ghost use lib.ListN.{length};
 ghost use Rattle.words.specs.Endian.{le};
 ghost use Rattle.words.specs.Size.{int32};
 ghost use Rattle.refusals.specs.Limits.{fileLimit};
 ghost use Rattle.block_stream.specs.Blocks as blocks;
+ghost use Rattle.block_stream.specs.Answers as answers;
 use hmac::Hmac;
 use refusals::Refusal;
 use words::le::Size;
@@ -20,6 +22,41 @@ pub enum Block {
     Data(usize),
     Closing,
     Refused(Refusal),
+}
+
+impl Block {
+    // The number of the answer: 0 is success.
+    pub fn number(self) -> u8
+        ensures { λ r. ⌜ r ≡ answers.said self .number ⌝ }
+    {
+        match self {
+            Block::Data(_) => 0,
+            Block::Closing => 0,
+            Block::Refused(r) => r.number(),
+        }
+    }
+
+    // The place of a refusal: 0 on success.
+    pub fn place(self) -> usize
+        ensures { λ r. ⌜ r ≡ answers.said self .place ⌝ }
+    {
+        match self {
+            Block::Data(_) => 0,
+            Block::Closing => 0,
+            Block::Refused(r) => r.place(),
+        }
+    }
+
+    // The size of the data: 0 of the closing block, and on a refusal.
+    pub fn value(self) -> usize
+        ensures { λ r. ⌜ r ∷ [] ≡ answers.said self .values ⌝ }
+    {
+        match self {
+            Block::Data(n) => n,
+            Block::Closing => 0,
+            Block::Refused(_) => 0,
+        }
+    }
 }
 
 // The tag of a block, whose size and data are `m`.
@@ -69,6 +106,7 @@ fn judge_size(f: &[u8], base: [u8; 64], number: u64, at: usize) -> Block
 // The block at a place of a file, judged as the block of a number.
 pub fn judge(f: &[u8], base: [u8; 64], number: u64, at: usize) -> Block
     ensures { λ r. ⌜ r ≡ blocks.judge base (now (f .entry)) number at ⌝ }
+    ensures { λ r. ⌜ answers.said r ≡ answers.said (blocks.judge base (now (f .entry)) number at) ⌝ }
 {
     if refusals::limits::file_fits(f.len()) {
         if f.len() < 36 {

@@ -6,6 +6,8 @@ use denote.Ref.{now}
 use lib.ListN.{length}
 use borrow.Author.Tests.{le-leb, lt-leb, leb-true}
 use Rattle.block_stream.specs.Blocks.{judge}
+use Rattle.refusals.proofs.Laws.Numbers.{said-too}
+use Rattle.block_stream.specs.Answers.{said}
 use borrow.Author.Needs.{needs}
 use Rattle.block_stream.proofs.judge.Statement.{statement}
 use Rattle.block_stream.proofs.judge.Tie as tie
@@ -16,7 +18,7 @@ returns c =
     let at-fits = c .before .before in
     let st = at-fits .before .before in
     let l : length (now (st .args .f)) < st .args .at + 36 = omega arith in
-    rw (sym (at-fits .file-fits .ensures) ∙ c .before .if1 .taken, lt-leb _ _ l)
+    said-too said (rw (sym (at-fits .file-fits .ensures) ∙ c .before .if1 .taken, lt-leb _ _ l))
 
 judge-size-requires : tie.Need-judge-size-requires
 judge-size-requires c κs =
@@ -29,7 +31,9 @@ returns-2 c =
     let at-fits = c .before .before .before .before in
     let st = at-fits .before .before in
     let l : st .args .at + 36 ≤ length (now (st .args .f)) = omega arith in
-    rw (sym (at-fits .file-fits .ensures) ∙ c .before .before .before .if1 .taken, le-leb _ _ l) (c .judge-size .ensures)
+    said-too said
+    (rw (sym (at-fits .file-fits .ensures) ∙ c .before .before .before .if1 .taken, le-leb _ _ l)
+    (c .judge-size .ensures))
 
 returns-3 : tie.Need-returns-3
 unfolding judge
@@ -37,11 +41,11 @@ returns-3 c =
     let at-fits = c .before .before .before in
     let st = at-fits .before .before in
     let l : length (now (st .args .f)) < st .args .at + 36 = omega arith in
-    rw (sym (at-fits .file-fits .ensures) ∙ c .before .before .if1 .taken, lt-leb _ _ l)
+    said-too said (rw (sym (at-fits .file-fits .ensures) ∙ c .before .before .if1 .taken, lt-leb _ _ l))
 
 returns-4 : tie.Need-returns-4
 unfolding judge
-returns-4 c = rw (sym (c .before .file-fits .ensures) ∙ c .if1 .left)
+returns-4 c = said-too said (rw (sym (c .before .file-fits .ensures) ∙ c .if1 .left))
 
 pub judge-spec : {M : Type 1} → statement M
 judge-spec =

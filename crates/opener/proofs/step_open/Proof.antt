@@ -22,7 +22,7 @@ returns c =
     let d = now (a .out) in
     does-by _ (refuse _ (blank Closed)) _ d d
     (ap (λ (b : Block). stepOn b (now (a .f)) (a .o) (length d))
-    (sym (at-judge .judge .ensures) ∙ at-why .why .given .1))
+    (sym (at-judge .judge .ensures .0) ∙ at-why .why .given .1))
     (close-does _ _ _ d (c .before .blank .ensures) (c .refuse .ensures))
 
 step-data-requires : tie.Need-step-data-requires
@@ -32,7 +32,7 @@ step-data-requires c κs =
     let st = at-judge .before .before .before .before .before in
     let a = st .args in
     let k = judge-data (a .o .keys .base) (now (a .f)) (a .o .number) (a .o .at) _
-    (sym (at-judge .judge .ensures) ∙ at-n .n .given .1) in
+    (sym (at-judge .judge .ensures .0) ∙ at-n .n .given .1) in
     (k .limit, (k .inside, st .pre))
 
 returns-2 : tie.Need-returns-2
@@ -44,7 +44,7 @@ returns-2 c =
     let d = now (a .out) in
     does-by _ _ _ d _
     (ap (λ (b : Block). stepOn b (now (a .f)) (a .o) (length d))
-    (sym (at-judge .judge .ensures) ∙ at-n .n .given .1))
+    (sym (at-judge .judge .ensures .0) ∙ at-n .n .given .1))
     (c .before .before .step-data .ensures)
 
 step-closing-requires : tie.Need-step-closing-requires
@@ -53,7 +53,7 @@ step-closing-requires c κs =
     let at-judge = at-told .before .before in
     let a = at-judge .before .before .before .before .before .args in
     let k = judge-closing (a .o .keys .base) (now (a .f)) (a .o .number) (a .o .at)
-    (sym (at-judge .judge .ensures) ∙ at-told .enum-told .given .1) in
+    (sym (at-judge .judge .ensures .0) ∙ at-told .enum-told .given .1) in
     omega (arith, k .inside)
 
 returns-3 : tie.Need-returns-3
@@ -65,7 +65,7 @@ returns-3 c =
     let d = now (a .out) in
     does-by _ _ _ d _
     (ap (λ (b : Block). stepOn b (now (a .f)) (a .o) (length d))
-    (sym (at-judge .judge .ensures) ∙ at-told .enum-told .given .1))
+    (sym (at-judge .judge .ensures .0) ∙ at-told .enum-told .given .1))
     (c .before .before .step-closing .ensures)
 
 pub step-open-spec : {M : Type 1} → statement M

@@ -30,7 +30,7 @@ returns c =
     let l = judged .before .loop in
     let a = judged .before .before .before .args in
     survey-refused (length (now (a .f))) (a .base) (now (a .f)) (l .number) (l .at) (l .taken) (l .inv .0)
-    (c .before .r .given .0 .0) (sym (judged .judge .ensures) ∙ c .before .r .given .1)
+    (c .before .r .given .0 .0) (sym (judged .judge .ensures .0) ∙ c .before .r .given .1)
     ∙ l .inv .1 .1 .1
 
 -- a block that closes is all there
@@ -41,7 +41,7 @@ closing-fits c =
     let a = judged .before .before .before .args in
     let w =
     judge-closing (a .base) (now (a .f)) (l .number) (l .at)
-    (sym (judged .judge .ensures) ∙ c .enum-told .given .1) .within in
+    (sym (judged .judge .ensures .0) ∙ c .enum-told .given .1) .within in
     omega (arith, w)
 
 returns-2 : tie.Need-returns-2 Inv-loop μ-loop
@@ -50,7 +50,7 @@ returns-2 c =
     let l = judged .before .loop in
     let a = judged .before .before .before .args in
     survey-trailing (length (now (a .f))) (a .base) (now (a .f)) (l .number) (l .at) (l .taken) (l .inv .0)
-    (sym (judged .judge .ensures) ∙ c .before .enum-told .given .1) (c .if1 .taken)
+    (sym (judged .judge .ensures .0) ∙ c .before .enum-told .given .1) (c .if1 .taken)
     ∙ l .inv .1 .1 .1
 
 returns-3 : tie.Need-returns-3 Inv-loop μ-loop
@@ -59,7 +59,7 @@ returns-3 c =
     let l = judged .before .loop in
     let a = judged .before .before .before .args in
     survey-text (length (now (a .f))) (a .base) (now (a .f)) (l .number) (l .at) (l .taken) (l .inv .0)
-    (sym (judged .judge .ensures) ∙ c .before .enum-told .given .1) (c .if1 .left)
+    (sym (judged .judge .ensures .0) ∙ c .before .enum-told .given .1) (c .if1 .left)
     ∙ l .inv .1 .1 .1
 
 -- a data block is all there, and not empty
@@ -72,7 +72,7 @@ data-there c =
     let l = judged .before .loop in
     let a = judged .before .before .before .args in
     judge-data (a .base) (now (a .f)) (l .number) (l .at) (c .before .n .given .0 .0)
-    (sym (judged .judge .ensures) ∙ c .before .n .given .1)
+    (sym (judged .judge .ensures .0) ∙ c .before .n .given .1)
 
 loop-again : tie.Need-loop-again Inv-loop μ-loop
 loop-again c =
@@ -88,7 +88,7 @@ loop-again c =
         (
           omega (arith, w, m),
           survey-more (length (now (a .f))) (a .base) (now (a .f)) (l .number) (l .at) (l .taken) (l .inv .0)
-              (c .before .n .given .0 .0) (sym (judged .judge .ensures) ∙ c .before .n .given .1)
+              (c .before .n .given .0 .0) (sym (judged .judge .ensures .0) ∙ c .before .n .given .1)
               ∙ l .inv .1 .1 .1,
         ),
       ),
