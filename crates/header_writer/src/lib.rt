@@ -3,13 +3,15 @@
 //   signatures, version | 2 cipher | 3 compression | 4 master seed | 7 nonce | 11 KDF dictionary | 12 custom | 0 end
 //
 // `check` makes the writer's checks of the figures, `write` lays the header, `header_len` tells its length beforehand.
-// The contracts cite specs/Written. Refusals: 4, 9, 5, 11 and 20 of AES-KDF or 22 of Argon2, then
-// 10 or 6.
+// The contracts cite specs/Written, and specs/Answers for what an answer says. Refusals: 4, 9, 5, 11 and 20 of AES-KDF
+// or 22 of Argon2, then 10 or 6.
 ghost use mathlib.Core.Path.{_≡_};
+ghost use mathlib.Core.List.{[], _∷_};
 ghost use Prim.Native.Nat.{_≤_};
 ghost use lib.ListN.{length, take};
 ghost use Rattle.slices.specs.Over.{laid, putAt};
 ghost use Rattle.header_writer.specs.Written as written;
+ghost use Rattle.header_writer.specs.Answers as answers;
 use ciphers::Cipher;
 use ciphers::Identified;
 use dictionary::Verdict;
@@ -20,6 +22,38 @@ use refusals::Refusal;
 pub enum Checked {
     As(Cipher),
     Refused(Refusal),
+}
+
+impl Checked {
+    // The number of the answer: 0 is success.
+    pub fn number(self) -> u8
+        ensures { λ r. ⌜ r ≡ answers.said self .number ⌝ }
+    {
+        match self {
+            Checked::As(_) => 0,
+            Checked::Refused(r) => r.number(),
+        }
+    }
+
+    // The place of a refusal: 0 on success.
+    pub fn place(self) -> usize
+        ensures { λ r. ⌜ r ≡ answers.said self .place ⌝ }
+    {
+        match self {
+            Checked::As(_) => 0,
+            Checked::Refused(r) => r.place(),
+        }
+    }
+
+    // The cipher's number: 0 on a refusal.
+    pub fn value(self) -> u8
+        ensures { λ r. ⌜ r ∷ [] ≡ answers.said self .values ⌝ }
+    {
+        match self {
+            Checked::As(c) => c.number(),
+            Checked::Refused(_) => 0,
+        }
+    }
 }
 
 // A custom dictionary may be absent: it has no bytes then.
@@ -126,6 +160,7 @@ pub fn check(
     custom: &[u8],
 ) -> Checked
     ensures { λ r. ⌜ r ≡ written.checked minor (now (cipher .entry)) (now (seed .entry)) (now (nonce .entry)) figures (now (salt .entry)) (now (custom .entry)) ⌝ }
+    ensures { λ r. ⌜ answers.said r ≡ answers.said (written.checked minor (now (cipher .entry)) (now (seed .entry)) (now (nonce .entry)) figures (now (salt .entry)) (now (custom .entry))) ⌝ }
 {
     if 1 < minor {
         return Checked::Refused(Refusal::WrongVersion(0));

@@ -2,26 +2,29 @@
 use mathlib.Core.Path.{sym, _∙_}
 use borrow.Author.Tests.{le-leb, lt-leb}
 use Rattle.header_writer.specs.Written.{checked, checkedCipher}
+use Rattle.refusals.proofs.Laws.Numbers.{said-too}
+use Rattle.header_writer.specs.Answers.{said}
 use borrow.Author.Needs.{needs}
 use Rattle.header_writer.proofs.check.Statement.{statement}
 use Rattle.header_writer.proofs.check.Tie as tie
 
 returns : tie.Need-returns
 unfolding checked
-returns c = rw (lt-leb _ 1 (c .if1 .taken))
+returns c = said-too said (rw (lt-leb _ 1 (c .if1 .taken)))
 
 returns-2 : tie.Need-returns-2
 unfolding checked checkedCipher
 returns-2 c =
     let i = c .before .before in
-    rw (le-leb _ 1 (i .before .if1 .left), sym (i .identify .ensures .0) ∙ c .enum-told .given .1)
+    said-too said (rw (le-leb _ 1 (i .before .if1 .left), sym (i .identify .ensures .0) ∙ c .enum-told .given .1))
 
 returns-3 : tie.Need-returns-3
 unfolding checked checkedCipher
 returns-3 c =
     let i = c .before .before .before .before in
-    rw (le-leb _ 1 (i .before .if1 .left), sym (i .identify .ensures .0) ∙ c .before .before .c .given .1)
-    (c .check-sizes .ensures)
+    said-too said
+    (rw (le-leb _ 1 (i .before .if1 .left), sym (i .identify .ensures .0) ∙ c .before .before .c .given .1)
+    (c .check-sizes .ensures))
 
 pub check-spec : {M : Type 1} → statement M
 check-spec =

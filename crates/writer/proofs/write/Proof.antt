@@ -24,7 +24,7 @@ returns c =
     let st = at-check .before .before .before .before .before .before .before .before in
     let b = now (st .args .payload) in
     let d = now (st .args .out) in
-    let e = sym (at-check .check .ensures) ∙ c .before .r .given .1 in (
+    let e = sym (at-check .check .ensures .0) ∙ c .before .r .given .1 in (
       writing-refused (given st) (st .args .t) b (length d) _ e,
       sym (over-nil d) ∙ ap (λ (w : List ℕ). over w d) (shown-refused (given st) (st .args .t) b (length d) _ e),
     )
@@ -35,7 +35,7 @@ write-checked-requires c κs =
     let st = at-check .before .before .before .before .before .before .before .before in
     let a = st .args in
     checked-sized (a .minor) (now (a .cipher)) (now (a .seed)) (now (a .nonce)) (a .figures) (now (a .salt))
-    (now (a .custom)) _ (sym (at-check .check .ensures) ∙ c .before .before .c .given .1)
+    (now (a .custom)) _ (sym (at-check .check .ensures .0) ∙ c .before .before .c .given .1)
 
 returns-2 : tie.Need-returns-2
 unfolding checkedOf fileCut headerOf
@@ -46,7 +46,7 @@ returns-2 c =
     let st = at-check .before .before .before .before .before .before .before .before in
     let b = now (st .args .payload) in
     let d = now (st .args .out) in
-    let e = sym (at-check .check .ensures) ∙ at-c .c .given .1 in
+    let e = sym (at-check .check .ensures .0) ∙ at-c .c .given .1 in
     let h = at-write .write-checked .ensures in
     let w = h .0 ∙ writing-as (given st) _ (st .args .t) b (length d) e in (
       w,
