@@ -4,9 +4,10 @@
 //   composite key | outer header | key T | start and steps | inner header | document
 //
 // The payload stands over the front of the lent output, and the answer tells where its document is. The contracts cite
-// specs/Unlocking. Refusals, in order: 1 for an input over a PC program's limit; those of the composite key (18); of
-// the outer header; of the key (17 for fewer words lent than `words_needed` tells); of the start and the steps; of the
-// inner header. What accepted steps wrote stays. Of the lent words, those that Argon2 used are zeros; all others stay.
+// specs/Unlocking, and specs/Answers for what an answer says. Refusals, in order: 1 for an input over a PC program's
+// limit; those of the composite key (18); of the outer header; of the key (17 for fewer words lent than `words_needed`
+// tells); of the start and the steps; of the inner header. What accepted steps wrote stays. Of the lent words, those
+// that Argon2 used are zeros; all others stay.
 ghost use mathlib.Core.Path.{_≡_};
 ghost use mathlib.Core.Bool.{not};
 ghost use lib.ListN.{length};
@@ -17,6 +18,7 @@ ghost use Rattle.outer_header.specs.Kdbx4Header.{header};
 ghost use Rattle.outer_header.specs.declared.Reading.the-variants as read;
 ghost use Rattle.inner_header.specs.InnerHeader as kdbx4;
 ghost use Rattle.unlocking.specs.Unlocking as unlocking;
+ghost use Rattle.unlocking.specs.Answers as answers;
 use inner_header::Read;
 use outer_header::Header;
 use outer_header::Reading;
@@ -36,6 +38,41 @@ pub enum Unlocked {
     Document(usize, usize),
     Refused(Refusal),
     PayloadRefused(Refusal),
+}
+
+impl Unlocked {
+    // The number of the answer: 0 is success.
+    pub fn number(self) -> u8
+        ensures { λ r. ⌜ r ≡ answers.said self .number ⌝ }
+    {
+        match self {
+            Unlocked::Document(_, _) => 0,
+            Unlocked::Refused(r) => r.number(),
+            Unlocked::PayloadRefused(r) => r.number(),
+        }
+    }
+
+    // The place of a refusal, in the payload or in the file: 0 on success.
+    pub fn place(self) -> usize
+        ensures { λ r. ⌜ r ≡ answers.said self .place ⌝ }
+    {
+        match self {
+            Unlocked::Document(_, _) => 0,
+            Unlocked::Refused(r) => r.place(),
+            Unlocked::PayloadRefused(r) => r.place(),
+        }
+    }
+
+    // Where the document starts and ends in the output: zeros on a refusal.
+    pub fn values(self) -> [u64; 2]
+        ensures { λ r. ⌜ r ≡ answers.said self .values ⌝ }
+    {
+        match self {
+            Unlocked::Document(start, end) => [start as u64, end as u64],
+            Unlocked::Refused(_) => [0u64; 2],
+            Unlocked::PayloadRefused(_) => [0u64; 2],
+        }
+    }
 }
 
 // Whether an input, where it is given, is within a PC program's limit.
@@ -149,6 +186,7 @@ pub fn unlock(
     ensures { λ r. ⌜ r ≡ unlocking.unlocked (keys.credential «has_password» (now (password .entry))) (keys.credential «has_key_file» (now («key_file» .entry))) (now (f .entry)) (length (now (out .entry))) (now (memory .entry)) .answer ⌝ }
     ensures { λ _. ⌜ now (out .exit) ≡ over (unlocking.unlocked (keys.credential «has_password» (now (password .entry))) (keys.credential «has_key_file» (now («key_file» .entry))) (now (f .entry)) (length (now (out .entry))) (now (memory .entry)) .bytes) (now (out .entry)) ⌝ }
     ensures { λ _. ⌜ now (memory .exit) ≡ unlocking.unlocked (keys.credential «has_password» (now (password .entry))) (keys.credential «has_key_file» (now («key_file» .entry))) (now (f .entry)) (length (now (out .entry))) (now (memory .entry)) .memory ⌝ }
+    ensures { λ r. ⌜ answers.said r ≡ answers.said (unlocking.unlocked (keys.credential «has_password» (now (password .entry))) (keys.credential «has_key_file» (now («key_file» .entry))) (now (f .entry)) (length (now (out .entry))) (now (memory .entry)) .answer) ⌝ }
 {
     if !is_within(f, true) {
         return Unlocked::Refused(Refusal::TooLong);

@@ -4,6 +4,7 @@
 --   document-refused, document-found              the payload's inner header
 --   steps-refused, steps-opened                   the steps
 --   under-refused, under-accepted; with-is        T, and where it is refused; T by a KDF
+--   shows-same, shows-said                        an opening by another name; what its answer says
 --   by-refused, by-read; as-refused, as-accepted  the header; the composite key
 --   within, beyond; unlocked-first, -second, -third, -within    the inputs' lengths
 -- Not here: T itself (Key).
@@ -38,6 +39,7 @@ use Rattle.inner_header.specs.declared.Read.the-variants as payload
 use Rattle.stepping.specs.Stepping.{ranFrom, writtenBy, writtenOf}
 use Rattle.unlocking.specs.declared.Unlocked.{Unlocked}
 use Rattle.unlocking.specs.declared.Unlocked.the-variants.{Document, Refused, PayloadRefused}
+use Rattle.unlocking.specs.Answers.{said}
 use Rattle.unlocking.specs.Unlocking.{
   Opening,
   keyOf,
@@ -106,6 +108,11 @@ Shows u x d y o = (u ≡ o .answer) × ((x ≡ over (o .bytes) d) × (y ≡ o .m
 -- .. also of the same opening by another name
 pub shows-same : (u : Unlocked) (x d y : List ℕ) (o q : Opening) → Shows u x d y o → o ≡ q → Shows u x d y q
 shows-same u x d y o q h e = rw (← e) h
+
+-- .. and what the answer says is what the opening's says
+pub shows-said : (u : Unlocked) (x d y : List ℕ) (o : Opening) → Shows u x d y o
+    → (u ≡ o .answer) × ((x ≡ over (o .bytes) d) × ((y ≡ o .memory) × (said u ≡ said (o .answer))))
+shows-said u x d y o h = (h .0, (h .1 .0, (h .1 .1, ap said (h .0))))
 
 pub with-is : (k : Kdf) (key f d m : List ℕ) (n : ℕ) (t : Transformed) (u : Unlocked) (x y : List ℕ)
     → t ≡ keyOf k key f (length m)

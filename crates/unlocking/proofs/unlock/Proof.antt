@@ -10,6 +10,7 @@ use Rattle.unlocking.proofs.Laws.Opening.{
   unlocked-third,
   unlocked-within,
   shows-same,
+  shows-said,
 }
 use borrow.Author.Needs.{needs}
 use Rattle.unlocking.proofs.unlock.Statement.{statement}
@@ -21,8 +22,9 @@ returns c =
     let p = credential (a .has-password) (now (a .password)) in
     let k = credential (a .has-key-file) (now (a .key-file)) in
     let d = now (a .out) in
-    unlocked-first p k (now (a .f)) d (now (a .memory)) (length d)
-    (beyond _ (c .before .is-within .ensures) (c .if1 .taken))
+    shows-said _ _ d _ _
+    (unlocked-first p k (now (a .f)) d (now (a .memory)) (length d)
+    (beyond _ (c .before .is-within .ensures) (c .if1 .taken)))
 
 returns-2 : tie.Need-returns-2
 returns-2 c =
@@ -31,9 +33,10 @@ returns-2 c =
     let p = credential (a .has-password) (now (a .password)) in
     let k = credential (a .has-key-file) (now (a .key-file)) in
     let d = now (a .out) in
-    unlocked-second p k (now (a .f)) d (now (a .memory)) (length d)
+    shows-said _ _ d _ _
+    (unlocked-second p k (now (a .f)) d (now (a .memory)) (length d)
     (within _ (x .before .is-within .ensures) (x .if1 .left))
-    (beyond _ (c .before .is-within2 .ensures) (c .if2 .taken))
+    (beyond _ (c .before .is-within2 .ensures) (c .if2 .taken)))
 
 returns-3 : tie.Need-returns-3
 returns-3 c =
@@ -43,10 +46,11 @@ returns-3 c =
     let p = credential (a .has-password) (now (a .password)) in
     let k = credential (a .has-key-file) (now (a .key-file)) in
     let d = now (a .out) in
-    unlocked-third p k (now (a .f)) d (now (a .memory)) (length d)
+    shows-said _ _ d _ _
+    (unlocked-third p k (now (a .f)) d (now (a .memory)) (length d)
     (within _ (x .before .is-within .ensures) (x .if1 .left))
     (within _ (y .before .is-within2 .ensures) (y .if2 .left))
-    (beyond _ (c .before .is-within3 .ensures) (c .if3 .taken))
+    (beyond _ (c .before .is-within3 .ensures) (c .if3 .taken)))
 
 returns-4 : tie.Need-returns-4
 returns-4 c =
@@ -58,11 +62,12 @@ returns-4 c =
     let p = credential (a .has-password) (now (a .password)) in
     let k = credential (a .has-key-file) (now (a .key-file)) in
     let d = now (a .out) in
-    shows-same _ _ d _ _ _ (o .open-as .ensures)
+    shows-said _ _ d _ _
+    (shows-same _ _ d _ _ _ (o .open-as .ensures)
     (unlocked-within p k (now (a .f)) d (now (a .memory)) (length d)
     (within _ (x .before .is-within .ensures) (x .if1 .left))
     (within _ (y .before .is-within2 .ensures) (y .if2 .left))
-    (within _ (z .before .is-within3 .ensures) (z .if3 .left)))
+    (within _ (z .before .is-within3 .ensures) (z .if3 .left))))
 
 pub unlock-spec : {M : Type 1} → statement M
 unlock-spec =
