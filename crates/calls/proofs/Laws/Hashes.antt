@@ -76,7 +76,7 @@ module _ (p : Sha2) where
       → resultOr (feedTo p messageLimit h s .outcome) (f (feedTo p messageLimit h s .next)) (f h)
       ≡ f (feedTo p messageLimit h s .next)
   unfolding feedTo
-  kept-feed f h s = by-bool (leb (h .total + length s) messageLimit) (λ t. rw t) (λ t. rw t)
+  kept-feed f h s = by-bool (leb (h .total + length s) messageLimit) (λ t. rw t refl) (λ t. rw t refl)
 
 sha256-sized : (h : Sha256) → sha256Bytes.Typed h → Sized fips180.sha256 (sha256.held h)
 sha256-sized h t =
