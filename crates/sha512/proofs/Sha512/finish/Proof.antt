@@ -1,5 +1,6 @@
 -- `sha512::Sha512::finish` meets its contract. Assumes nothing.
 use mathlib.Core.Path.{_≡_, refl, sym}
+use Prim.Native.Nat.{_≤_}
 use native.Mathlib.Omega.{arith}
 use lib.ListN.{length}
 use Rattle.sha2.specs.Fips180.{sha512}
@@ -10,6 +11,9 @@ use borrow.Author.Needs.{needs}
 use Rattle.sha512.proofs.Sha512.finish.Statement.{statement}
 use Rattle.sha512.proofs.Sha512.finish.Tie as tie
 
+wide : 4 ≤ sha512 .bytes
+wide = omega arith
+
 long : (c : tie.Start) → length (c .args .self .buffer) ≡ 128
 long c = search needs
 
@@ -19,13 +23,13 @@ array-share-prefix-buffer c = omega (arith, long (c .before .before .before .bef
 slice-aggregate-copy-2 : tie.Need-slice-aggregate-copy-2
 slice-aggregate-copy-2 c =
     let st = c .before .before .before .before .before .before in
-    sym (last.length-front sha512 (omega arith) (held (st .args .self)) (long st))
+    sym (last.length-front sha512 wide (held (st .args .self)) (long st))
 
 part-last-end : tie.Need-part-last-end
 part-last-end c =
     let at-copy = c .before in
     let st = at-copy .before .before .before .before .before .before .before in
-    omega (arith, last.length-marked sha512 (omega arith) (held (st .args .self)) (long st) (at-copy .copy .ensures))
+    omega (arith, last.length-marked sha512 wide (held (st .args .self)) (long st) (at-copy .copy .ensures))
 
 array-share-prefix-last : tie.Need-array-share-prefix-last
 array-share-prefix-last c =
@@ -33,7 +37,7 @@ array-share-prefix-last c =
     let st = at-copy .before .before .before .before .before .before .before in
     omega (
       arith,
-      last.length-laid sha512 (omega arith) (held (st .args .self)) (long st) (at-copy .copy .ensures)
+      last.length-laid sha512 wide (held (st .args .self)) (long st) (at-copy .copy .ensures)
           (at-copy .before .before .before .bytes64 .ensures) (c .before .copy2 .ensures),
     )
 
@@ -41,7 +45,7 @@ slice-aggregate-blocks : tie.Need-slice-aggregate-blocks
 slice-aggregate-blocks c =
     let at-copy = c .before .before .before .before .before .before in
     let st = at-copy .before .before .before .before .before .before .before in
-    last.length-last sha512 (omega arith) (held (st .args .self)) (long st) (at-copy .copy .ensures)
+    last.length-last sha512 wide (held (st .args .self)) (long st) (at-copy .copy .ensures)
     (at-copy .before .before .before .bytes64 .ensures) (c .before .before .copy2 .ensures)
 
 blocks-requires : tie.Need-blocks-requires
@@ -54,7 +58,7 @@ returns c =
     let at-copy-2 = at-blocks .before .before .before .before in
     let at-copy = at-copy-2 .before .before .before .before in
     let st = at-copy .before .before .before .before .before .before .before in
-    last.finish-is sha512 (omega arith) (held (st .args .self)) (long st) (at-copy .copy .ensures)
+    last.finish-is sha512 wide (held (st .args .self)) (long st) (at-copy .copy .ensures)
     (at-copy .before .before .before .bytes64 .ensures) (at-copy-2 .copy2 .ensures) (omega arith)
     (at-blocks .blocks2 .ensures) (c .digest .ensures)
 
