@@ -274,6 +274,7 @@ pub fn check(s: &[u8]) -> Verdict
 // one, or absent. `find` refuses such a dictionary.
 pub fn search_sound(s: &[u8], name: &[u8]) -> Found
     ensures { λ r. ⌜ r ≡ dictionary.searchFrom (length (now (s .entry))) (now (s .entry)) 2 (now (name .entry)) ⌝ }
+    ensures { λ r. ⌜ answers.saidFound r ≡ answers.saidFound (dictionary.searchFrom (length (now (s .entry))) (now (s .entry)) 2 (now (name .entry))) ⌝ }
 {
     let mut at: usize = 2;
     let mut left = s.len();

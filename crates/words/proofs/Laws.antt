@@ -8,6 +8,7 @@
 --   XorBytes  the bytes of an exclusive or are those of its parts
 --   Bytes     lists of bytes
 --   Tests     a rule over all bytes, by one test that is computed
+--   Said      equal answers say the same
 pub mod Cases
 pub mod Xor
 pub mod Xors
@@ -15,3 +16,4 @@ pub mod Endian
 pub mod XorBytes
 pub mod Bytes
 pub mod Tests
+pub mod Said

@@ -72,6 +72,7 @@ pub fn u64_at(s: &[u8], at: usize) -> u64
 // The size field at a place.
 pub fn size_at(s: &[u8], at: usize) -> Size
     ensures { λ r. ⌜ r ≡ int32 (endian.le 4 (now (s .entry)) at) ⌝ }
+    ensures { λ r. ⌜ answers.said r ≡ answers.said (int32 (endian.le 4 (now (s .entry)) at)) ⌝ }
 {
     let n = u32_at(s, at);
     if n < 0x8000_0000 {

@@ -6,7 +6,7 @@ use denote.Ref.{now}
 use lib.ListN.{length}
 use borrow.Author.Tests.{le-leb, lt-leb, leb-true}
 use Rattle.block_stream.specs.Blocks.{judge}
-use Rattle.refusals.proofs.Laws.Numbers.{said-too}
+use Rattle.words.proofs.Laws.Said.{said-too}
 use Rattle.block_stream.specs.Answers.{said}
 use borrow.Author.Needs.{needs}
 use Rattle.block_stream.proofs.judge.Statement.{statement}

@@ -8,14 +8,14 @@ use Rattle.block_stream.proofs.judge_size.Tie as tie
 
 returns : tie.Need-returns
 unfolding judgeSize
-returns c = rw (sym (c .before .before .size-at .ensures) ∙ c .enum-told .given .1)
+returns c = rw (sym (c .before .before .size-at .ensures .0) ∙ c .enum-told .given .1)
 
 returns-2 : tie.Need-returns-2
 unfolding judgeSize
 returns-2 c =
     let at-size = c .before .before in
     rw (
-      sym (at-size .before .before .size-at .ensures) ∙ at-size .size .given .1,
+      sym (at-size .before .before .size-at .ensures .0) ∙ at-size .size .given .1,
       lt-leb _ _ (c .if1 .taken),
     )
 
@@ -25,7 +25,7 @@ returns-3 c =
     let at-holds = c .before .before in
     let at-size = at-holds .before .before .before in
     rw (
-      sym (at-size .before .before .size-at .ensures) ∙ at-size .size .given .1,
+      sym (at-size .before .before .size-at .ensures .0) ∙ at-size .size .given .1,
       le-leb _ _ (at-holds .before .if1 .left),
       sym (at-holds .tag-holds .ensures) ∙ c .before .if2 .taken,
       eq-eqb _ _ (c .if3 .taken),
@@ -37,7 +37,7 @@ returns-4 c =
     let at-holds = c .before .before in
     let at-size = at-holds .before .before .before in
     rw (
-      sym (at-size .before .before .size-at .ensures) ∙ at-size .size .given .1,
+      sym (at-size .before .before .size-at .ensures .0) ∙ at-size .size .given .1,
       le-leb _ _ (at-holds .before .if1 .left),
       sym (at-holds .tag-holds .ensures) ∙ c .before .if2 .taken,
       ne-eqb _ _ (c .if3 .left),
@@ -49,7 +49,7 @@ returns-5 c =
     let at-holds = c .before in
     let at-size = at-holds .before .before .before in
     rw (
-      sym (at-size .before .before .size-at .ensures) ∙ at-size .size .given .1,
+      sym (at-size .before .before .size-at .ensures .0) ∙ at-size .size .given .1,
       le-leb _ _ (at-holds .before .if1 .left),
       sym (at-holds .tag-holds .ensures) ∙ c .if2 .left,
     )

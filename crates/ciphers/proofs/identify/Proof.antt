@@ -1,7 +1,7 @@
 -- `ciphers::identify` meets its contract. Assumes nothing.
 use mathlib.Core.Path.{sym, _∙_}
 use Rattle.ciphers.specs.Ciphers.{cipherOf, identifier}
-use Rattle.refusals.proofs.Laws.Numbers.{said-too}
+use Rattle.words.proofs.Laws.Said.{said-too}
 use Rattle.ciphers.specs.Answers.{said}
 use borrow.Author.Needs.{needs}
 use Rattle.ciphers.proofs.identify.Statement.{statement}

@@ -4,7 +4,7 @@ use native.Mathlib.Omega.{arith}
 use denote.Ref.{now}
 use lib.ListN.{length}
 use borrow.Author.Tests.{lt-ltb, le-ltb, ne-eqb}
-use Rattle.refusals.proofs.Laws.Numbers.{said-too}
+use Rattle.words.proofs.Laws.Said.{said-too}
 use Rattle.dictionary.specs.Answers.{saidVerdict}
 use borrow.Author.Needs.{needs}
 use Rattle.dictionary.specs.Dictionary.{verdict}

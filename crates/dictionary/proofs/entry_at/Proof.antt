@@ -1,7 +1,7 @@
 -- `dictionary::entry_at` meets its contract. Assumes nothing.
 use borrow.Author.Tests.{lt-leb, le-leb, lt-ltb, le-ltb, eq-eqb, ne-eqb}
 use Rattle.dictionary.specs.Dictionary.{nameAt, entryAt}
-use Rattle.refusals.proofs.Laws.Numbers.{said-too}
+use Rattle.words.proofs.Laws.Said.{said-too}
 use Rattle.dictionary.specs.Answers.{saidEntry}
 use borrow.Author.Needs.{needs}
 use Rattle.dictionary.proofs.entry_at.Statement.{statement}
@@ -42,7 +42,7 @@ returns-5 c =
       lt-leb _ _ (here .if1 .left),
       ne-eqb _ _ (some .if2 .left),
       le-ltb _ _ (c .before .before .before .if4 .left),
-      ← c .before .before .size-at .ensures,
+      ← c .before .before .size-at .ensures .0,
       c .enum-told .given .1,
     ))
 
@@ -56,7 +56,7 @@ returns-6 c =
       lt-leb _ _ (here .if1 .left),
       ne-eqb _ _ (some .if2 .left),
       le-ltb _ _ (c .before .before .before .before .before .if4 .left),
-      ← c .before .before .before .before .size-at .ensures,
+      ← c .before .before .before .before .size-at .ensures .0,
       c .before .before .v .given .1,
       lt-ltb _ _ (c .if5 .taken),
     ))
@@ -71,7 +71,7 @@ returns-7 c =
       lt-leb _ _ (here .if1 .left),
       ne-eqb _ _ (some .if2 .left),
       le-ltb _ _ (c .before .before .before .before .before .before .if4 .left),
-      ← c .before .before .before .before .before .size-at .ensures,
+      ← c .before .before .before .before .before .size-at .ensures .0,
       c .before .before .before .v .given .1,
       le-ltb _ _ (c .before .if5 .left),
     ) (c .value-at .ensures))

@@ -1,6 +1,6 @@
 -- `dictionary::find` meets its contract. Assumes nothing.
 use Rattle.dictionary.specs.Dictionary.{findIn, find}
-use Rattle.refusals.proofs.Laws.Numbers.{said-too}
+use Rattle.words.proofs.Laws.Said.{said-too}
 use Rattle.dictionary.specs.Answers.{saidFound}
 use borrow.Author.Needs.{needs}
 use Rattle.dictionary.proofs.find.Statement.{statement}
@@ -10,7 +10,7 @@ returns : tie.Need-returns
 unfolding find findIn
 returns c =
     said-too saidFound
-    (rw (← c .before .before .before .check .ensures .0, c .before .enum-told .given .1) (c .search-sound .ensures))
+    (rw (← c .before .before .before .check .ensures .0, c .before .enum-told .given .1) (c .search-sound .ensures .0))
 
 returns-2 : tie.Need-returns-2
 unfolding find findIn

@@ -4,7 +4,9 @@ use mathlib.Core.Path.{_≡_, refl, sym, _∙_}
 use native.Mathlib.Omega.{arith}
 use denote.Ref.{now}
 use lib.ListN.{length}
+use Rattle.words.proofs.Laws.Said.{said-too}
 use Rattle.dictionary.specs.Dictionary.{searchIn, searchFrom}
+use Rattle.dictionary.specs.Answers.{saidFound}
 use Rattle.dictionary.proofs.Laws.Entry.{entryAt-within}
 use Rattle.dictionary.proofs.Laws.Walk.{searchFrom-more}
 use borrow.Author.Needs.{needs}
@@ -29,7 +31,7 @@ returns c =
     let f =
     searchFrom-more (l .left) (now (a .s)) (l .at) (now (a .name)) (e .entry-at .result) (search needs)
     (e .entry-at .ensures .0) in
-    sym (rw (c .enum-told .given .1) at f) ∙ l .inv
+    said-too saidFound (sym (rw (c .enum-told .given .1) at f) ∙ l .inv)
 
 returns-2 : tie.Need-returns-2 Inv-loop μ-loop
 unfolding searchIn
@@ -40,7 +42,7 @@ returns-2 c =
     let f =
     searchFrom-more (l .left) (now (a .s)) (l .at) (now (a .name)) (e .entry-at .result) (search needs)
     (e .entry-at .ensures .0) in
-    sym (rw (c .enum-told2 .given .1) at f) ∙ l .inv
+    said-too saidFound (sym (rw (c .enum-told2 .given .1) at f) ∙ l .inv)
 
 returns-3 : tie.Need-returns-3 Inv-loop μ-loop
 unfolding searchIn
@@ -53,7 +55,8 @@ returns-3 c =
     let f =
     searchFrom-more (l .left) (now (a .s)) (l .at) (now (a .name)) (e .entry-at .result) (search needs)
     (e .entry-at .ensures .0) in
-    sym (rw (i .i .given .1, ← p .part .ensures, ← c .before .same .ensures, c .if1 .taken) at f) ∙ l .inv
+    said-too saidFound
+    (sym (rw (i .i .given .1, ← p .part .ensures, ← c .before .same .ensures, c .if1 .taken) at f) ∙ l .inv)
 
 add-at : tie.Need-add-at Inv-loop μ-loop
 add-at c =
@@ -81,7 +84,9 @@ loop-again c =
 
 returns-4 : tie.Need-returns-4 Inv-loop μ-loop
 unfolding searchFrom
-returns-4 c = let z : c .before .loop .left ≡ 0 = omega arith in rw (← c .before .loop .inv, z)
+returns-4 c =
+    let z : c .before .loop .left ≡ 0 = omega arith in
+    said-too saidFound (rw (← c .before .loop .inv, z))
 
 pub search-sound-spec : {M : Type 1} → statement M
 search-sound-spec =

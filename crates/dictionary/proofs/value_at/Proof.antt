@@ -9,7 +9,7 @@ returns : tie.Need-returns
 unfolding valueAt
 returns c =
     let v = c .before .before in
-    rw (← v .before .before .size-at .ensures, v .v .given .1, lt-ltb _ _ (c .if1 .taken))
+    rw (← v .before .before .size-at .ensures .0, v .v .given .1, lt-ltb _ _ (c .if1 .taken))
 
 returns-2 : tie.Need-returns-2
 unfolding valueAt
@@ -18,7 +18,7 @@ returns-2 c =
     let room = fits .before .before in
     let v = room .before .before in
     rw (
-      ← v .before .before .size-at .ensures,
+      ← v .before .before .size-at .ensures .0,
       v .v .given .1,
       le-ltb _ _ (room .if1 .left),
       ← fits .size-fits .ensures,
@@ -27,7 +27,7 @@ returns-2 c =
 
 returns-3 : tie.Need-returns-3
 unfolding valueAt
-returns-3 c = rw (← c .before .before .size-at .ensures, c .enum-told .given .1)
+returns-3 c = rw (← c .before .before .size-at .ensures .0, c .enum-told .given .1)
 
 returns-4 : tie.Need-returns-4
 unfolding valueAt
@@ -36,7 +36,7 @@ returns-4 c =
     let room = fits .before .before in
     let v = room .before .before in
     rw (
-      ← v .before .before .size-at .ensures,
+      ← v .before .before .size-at .ensures .0,
       v .v .given .1,
       le-ltb _ _ (room .if1 .left),
       ← fits .size-fits .ensures,

@@ -5,7 +5,7 @@ use Prim.Native.Nat.{_+_, _≤_, _<_}
 use native.Mathlib.Omega.{arith}
 use denote.Ref.{now}
 use lib.ListN.{length}
-use Rattle.refusals.proofs.Laws.Numbers.{said-too}
+use Rattle.words.proofs.Laws.Said.{said-too}
 use Rattle.fields.specs.Answers.{said}
 use borrow.Author.Needs.{needs}
 use Rattle.fields.proofs.field_at.Statement.{statement}

@@ -8,7 +8,7 @@ use Rattle.fields.proofs.value_at.Tie as tie
 
 returns : tie.Need-returns
 unfolding valueAt
-returns c = rw (sym (c .before .before .size-at .ensures) ∙ c .enum-told .given .1)
+returns c = rw (sym (c .before .before .size-at .ensures .0) ∙ c .enum-told .given .1)
 
 returns-2 : tie.Need-returns-2
 unfolding valueAt
@@ -16,7 +16,7 @@ returns-2 c =
     let at-fits = c .before .before .before in
     let at-n = at-fits .before .before in
     rw (
-      sym (at-n .before .before .size-at .ensures) ∙ at-n .n .given .1,
+      sym (at-n .before .before .size-at .ensures .0) ∙ at-n .n .given .1,
       sym (at-fits .fits2 .ensures) ∙ c .before .before .if1 .taken,
       le-leb _ _ (c .before .if2 .taken),
     )
@@ -27,7 +27,7 @@ returns-3 c =
     let at-fits = c .before .before in
     let at-n = at-fits .before .before in
     rw (
-      sym (at-n .before .before .size-at .ensures) ∙ at-n .n .given .1,
+      sym (at-n .before .before .size-at .ensures .0) ∙ at-n .n .given .1,
       sym (at-fits .fits2 .ensures) ∙ c .before .if1 .taken,
       lt-leb _ _ (c .if2 .left),
     )
@@ -38,7 +38,7 @@ returns-4 c =
     let at-fits = c .before in
     let at-n = at-fits .before .before in
     rw (
-      sym (at-n .before .before .size-at .ensures) ∙ at-n .n .given .1,
+      sym (at-n .before .before .size-at .ensures .0) ∙ at-n .n .given .1,
       sym (at-fits .fits2 .ensures) ∙ c .if1 .left,
     )
 

@@ -2,7 +2,7 @@
 use mathlib.Core.Path.{sym, _∙_}
 use borrow.Author.Tests.{le-leb, lt-leb}
 use Rattle.header_writer.specs.Written.{checked, checkedCipher}
-use Rattle.refusals.proofs.Laws.Numbers.{said-too}
+use Rattle.words.proofs.Laws.Said.{said-too}
 use Rattle.header_writer.specs.Answers.{said}
 use borrow.Author.Needs.{needs}
 use Rattle.header_writer.proofs.check.Statement.{statement}

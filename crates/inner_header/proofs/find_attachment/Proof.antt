@@ -8,7 +8,7 @@ use Rattle.inner_header.proofs.Laws.Opened.{
   attachmentOf-past,
   asked-within,
 }
-use Rattle.refusals.proofs.Laws.Numbers.{said-too}
+use Rattle.words.proofs.Laws.Said.{said-too}
 use Rattle.inner_header.specs.Answers.{saidAttachment}
 use borrow.Author.Needs.{needs}
 use Rattle.inner_header.proofs.find_attachment.Statement.{statement}

@@ -3,7 +3,7 @@ use mathlib.Core.Path.{sym, _∙_}
 use denote.Ref.{now}
 use Rattle.inner_header.specs.InnerHeader.{inner, opened}
 use Rattle.inner_header.proofs.Laws.Opened.{innerOf-refused, innerOf-ended}
-use Rattle.refusals.proofs.Laws.Numbers.{said-too}
+use Rattle.words.proofs.Laws.Said.{said-too}
 use Rattle.inner_header.specs.Answers.{saidRead}
 use borrow.Author.Needs.{needs}
 use Rattle.inner_header.proofs.read_header.Statement.{statement}

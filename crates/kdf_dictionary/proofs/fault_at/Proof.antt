@@ -12,17 +12,17 @@ use Rattle.kdf_dictionary.proofs.fault_at.Tie as tie
 
 returns : tie.Need-returns
 unfolding faultIn
-returns c = rw (sym (c .before .before .search-sound .ensures) ∙ c .enum-told .given .1)
+returns c = rw (sym (c .before .before .search-sound .ensures .0) ∙ c .enum-told .given .1)
 
 returns-2 : tie.Need-returns-2
 unfolding faultIn
-returns-2 c = rw (sym (c .before .before .search-sound .ensures) ∙ c .enum-told2 .given .1)
+returns-2 c = rw (sym (c .before .before .search-sound .ensures .0) ∙ c .enum-told2 .given .1)
 
 returns-3 : tie.Need-returns-3
 unfolding faultIn
 returns-3 c =
     let a = c .before .before in
-    rw (sym (a .before .before .search-sound .ensures) ∙ a .start .given .1) (omega arith)
+    rw (sym (a .before .before .search-sound .ensures .0) ∙ a .start .given .1) (omega arith)
 
 add-result : tie.Need-add-result
 add-result c =
@@ -30,7 +30,7 @@ add-result c =
     let s = a .before .before in
     let g = a .start .given in
     let x = s .before .before .before in
-    let l = found-within (now (x .args .d)) (now (x .args .name)) (s .search-sound .result) (s .search-sound .ensures)
+    let l = found-within (now (x .args .d)) (now (x .args .name)) (s .search-sound .result) (s .search-sound .ensures .0)
     (g .0 .0) (g .0 .1 .0) (g .0 .1 .1 .0) (g .1) in
     search needs
 
@@ -38,7 +38,7 @@ returns-4 : tie.Need-returns-4
 unfolding faultIn
 returns-4 c =
     let a = c .before .before .before in
-    rw (sym (a .before .before .search-sound .ensures) ∙ a .start .given .1)
+    rw (sym (a .before .before .search-sound .ensures .0) ∙ a .start .given .1)
 
 pub fault-at-spec : {M : Type 1} → statement M
 fault-at-spec =

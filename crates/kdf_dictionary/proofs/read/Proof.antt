@@ -8,7 +8,7 @@ use denote.Ref.{now}
 use lib.ListN.{length, take, drop, length-take, length-drop}
 use Rattle.dictionary.proofs.Laws.Within.{part-end-lt, broken-lt, repeated-lt}
 use Rattle.kdf_dictionary.specs.KdfDictionary.{kdfIn, kdfOf}
-use Rattle.refusals.proofs.Laws.Numbers.{said-too}
+use Rattle.words.proofs.Laws.Said.{said-too}
 use Rattle.kdf_dictionary.specs.Answers.{said}
 use borrow.Author.Needs.{needs}
 use Rattle.kdf_dictionary.proofs.read.Statement.{statement}

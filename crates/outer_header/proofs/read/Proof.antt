@@ -2,7 +2,7 @@
 use mathlib.Core.Path.{sym, _∙_}
 use borrow.Author.Tests.{eq-eqb, ne-eqb, lt-ltb, le-ltb}
 use Rattle.outer_header.specs.Kdbx4Header.{header}
-use Rattle.refusals.proofs.Laws.Numbers.{said-too}
+use Rattle.words.proofs.Laws.Said.{said-too}
 use Rattle.outer_header.specs.Answers.{said}
 use borrow.Author.Needs.{needs}
 use Rattle.outer_header.proofs.read.Statement.{statement}

@@ -10,7 +10,7 @@ use lib.Dec.{eqb}
 use lib.ListN.{length, getD, drop}
 use Rattle.pkcs7.proofs.Laws.Check.{checkedFrom, checkedFrom-end, checkedFrom-more}
 use Rattle.pkcs7.proofs.Laws.Check.{answer-zero, answer-large, answer-checked}
-use Rattle.refusals.proofs.Laws.Numbers.{said-too}
+use Rattle.words.proofs.Laws.Said.{said-too}
 use Rattle.pkcs7.specs.Answers.{said}
 use borrow.Author.Needs.{needs}
 use Rattle.pkcs7.proofs.check.Statement.{statement}

@@ -1,7 +1,6 @@
 -- Refusal numbers tell the refusals apart: none has the number of success, and two of one number are the same.
 --
--- In order: ofRefusal-positive, ofRefusal-inj, ofRefusal-17; number-negative, a size field's; said-too, what equal
--- answers say.
+-- In order: ofRefusal-positive, ofRefusal-inj, ofRefusal-17; number-negative, a size field's.
 -- Assumes nothing.
 use mathlib.Core.Path.{_≡_, refl, sym, ap, ap₂, _∙_}
 use mathlib.Core.List.{[], _∷_}
@@ -12,7 +11,7 @@ use Rattle.words.specs.Answers as answers
 use Rattle.words.specs.declared.le.Size.the-variants.{Negative}
 use Rattle.refusals.specs.declared.Refusal.{Refusal}
 use Rattle.refusals.specs.declared.Refusal.the-variants.{TooLong, CutShort, WrongSignature, WrongVersion, WrongSize, Repeated, UnknownField, Absent, Unlisted, BrokenDictionary, TooManyRounds, HeaderHash, HeaderTag, BlockTag, TrailingBytes, WrongPadding, NoRoom, WrongCredential, OutOfSequence, TooFewRounds, FigureOutside}
-use Rattle.refusals.specs.Numbers.{Said, ofRefusal, placeOf}
+use Rattle.refusals.specs.Numbers.{ofRefusal, placeOf}
 
 pub ofRefusal-positive : (r : Refusal) → 0 < ofRefusal r
 ofRefusal-positive TooLong = omega arith
@@ -82,7 +81,3 @@ ofRefusal-17 r e = sym (named-ofRefusal r) ∙ ap (λ (n : ℕ). named n (placeO
 -- the number of a negative size (crate words, Answers) is that of the refusal
 pub number-negative : (at : ℕ) → answers.number Negative ≡ ofRefusal (WrongSize at)
 number-negative at = refl
-
--- an answer that is the definition's says what the definition's says
-pub said-too : {A : Type 0} (said : A → Said) {x y : A} → x ≡ y → (x ≡ y) × (said x ≡ said y)
-said-too said e = (e, ap said e)
