@@ -40,7 +40,7 @@ use Rattle.writer.specs.Stretches.{Sized, blockCount, fileLength, blocksLength,
 use Rattle.writer.proofs.Laws.Checks.{checked-sized, writing-as, settled-wrote}
 use Rattle.writer.proofs.Laws.Files.{length-file}
 use Rattle.round_trip.specs.Opens.{WrittenOpens}
-use Rattle.round_trip.specs.Writable.{KdfTaken, sizeOf, Writable, IsWritten}
+use Rattle.round_trip.specs.Writable.{KdfTaken, sizeOf, Fits, Writable, IsWritten}
 use Rattle.round_trip.proofs.Laws.Success.{success}
 use Rattle.round_trip.proofs.Theorem.{writing-opens}
 
@@ -92,20 +92,19 @@ checked-writable g c b n w =
     })
 
 -- figures that pass the header's checks are written, where payload and file are within their limits and there is room
-pub checked-writes : (g : Figures) (c : Cipher) (t b : List ℕ) (n : ℕ) → checkedOf g ≡ As c → length b ≤ payloadLimit
-    → sizeOf g c b ≤ fileLimit → sizeOf g c b ≤ n
+pub checked-writes : (g : Figures) (c : Cipher) (t b : List ℕ) (n : ℕ) → checkedOf g ≡ As c → Fits g c b n
     → writing g t b n ≡ written.Wrote (sizeOf g c b)
-checked-writes g c t b n e p f r =
+checked-writes g c t b n e f =
     sym (writing-as g c t b n e)
     ∙ ap (λ (x : ℕ). settled sizes (length b) x n) (length-fileBytes g c t b e)
-    ∙ sym (settled-wrote (length b) (sizeOf g c b) n (le-leb (length b) payloadLimit p)
-    (le-leb (sizeOf g c b) fileLimit f) r)
+    ∙ sym (settled-wrote (length b) (sizeOf g c b) n (le-leb (length b) payloadLimit (f .payload-le))
+    (le-leb (sizeOf g c b) fileLimit (f .file-le)) (f .room))
 
 -- THE THEOREM
 pub writable-writes : (g : Figures) (c : Cipher) (t b : List ℕ) (n : ℕ) → Writable g c b n
     → writing g t b n ≡ written.Wrote (sizeOf g c b)
 writable-writes g c t b n w =
-    checked-writes g c t b n (checked-writable g c b n w) (w .payload-le) (w .file-le) (w .room)
+    checked-writes g c t b n (checked-writable g c b n w) (w .fits)
 
 -- .. and the other way round
 pub writes-writable : (g : Figures) (t b : List ℕ) (n m : ℕ) → writing g t b n ≡ written.Wrote m → IsWritten g b n m
@@ -124,9 +123,7 @@ writes-writable g t b n m h =
         nonce-long = k .nonce-long;
         kdf-taken = writable-kdf (g .kdf) (length (g .salt)) (k .writable);
         custom-sound = k .custom-sound;
-        payload-le = w .payload-le;
-        file-le = rw l at (w .file-le);
-        room = rw l at (w .room);
+        fits = record { payload-le = w .payload-le; file-le = rw l at (w .file-le); room = rw l at (w .room) };
       };
       count-is = sym (w .count) ∙ l;
     }
@@ -154,7 +151,7 @@ blocksLength-le : (n : ℕ) → n ≤ 16_000_016 → blocksLength n ≤ 16_010_0
 unfolding blocksLength blockCount writtenBlock
 blocksLength-le n h = omega arith
 
-pub size-plain : (c : Cipher) (fig : KdfFigures) (l n : ℕ) → KdfTaken fig l → n ≤ 16_000_000
+size-plain : (c : Cipher) (fig : KdfFigures) (l n : ℕ) → KdfTaken fig l → n ≤ 16_000_000
     → fileLength c fig l 0 n ≤ fileLimit
 unfolding fileLength headerLength fileLimit
 size-plain c fig l n k h =
@@ -182,7 +179,9 @@ writable-plain minor c seed nonce fig salt b m s o k l =
       nonce-long = o;
       kdf-taken = k;
       custom-sound = verdict-none;
-      payload-le = omega arith;
-      file-le = size-plain c fig (length salt) (length b) k l;
-      room = size-plain c fig (length salt) (length b) k l;
+      fits = record {
+        payload-le = omega arith;
+        file-le = size-plain c fig (length salt) (length b) k l;
+        room = size-plain c fig (length salt) (length b) k l;
+      };
     }

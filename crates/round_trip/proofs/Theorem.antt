@@ -8,9 +8,8 @@ use mathlib.Core.Path.{_≡_, refl, sym, ap, _∙_}
 use mathlib.Core.List.{List, [], _++_}
 use Prim.Native.Nat.{ℕ, suc, _+_, _-_, _≤_, _<_}
 use native.Mathlib.Omega.{arith}
-use lib.ListN.{length, take, drop, replicate, length-append}
+use lib.ListN.{length, take, drop, length-append}
 use borrow.Author.Tests.{le-ltb}
-use Rattle.words.proofs.Laws.Bytes.{bytes-append, bytes-replicate}
 use Rattle.slices.specs.Over.{over}
 use Rattle.slices.proofs.Laws.Over.{take-over, drop-over}
 use Rattle.refusals.proofs.Laws.Limits.{block-positive}
@@ -25,7 +24,6 @@ use Rattle.opening.specs.declared.Keys.{Keys}
 use Rattle.opening.specs.Decryption.{opened, payloadBy, payload}
 use Rattle.opening.specs.Whole.{walk, whole, roomed, wholeIn}
 use Rattle.opening.specs.Plain.{plainStart}
-use Rattle.opening.specs.Steps.{padded}
 use Rattle.opening.specs.Runs.{withRoom}
 use Rattle.opening.specs.Agreement.{stepAnswers, Roomy, OpenedStepwise}
 use Rattle.opening.proofs.Laws.Payload.{payload-aes, payload-chaCha}
@@ -36,7 +34,7 @@ use Rattle.writer.specs.Stretches.{summed}
 use Rattle.writer.proofs.Laws.Cut.{length-blocks}
 use Rattle.writer.proofs.Laws.Files.{length-summed}
 use Rattle.round_trip.specs.Opens.{fileKeys, firstBlock, Opens, WrittenOpens}
-use Rattle.round_trip.proofs.Laws.Started.{cipher-is, nonce-is, length-nonce, start-written}
+use Rattle.round_trip.proofs.Laws.Started.{cipher-is, length-nonce, nonce-block, start-written}
 use Rattle.round_trip.proofs.Laws.Blocks.{walk-blocks}
 use Rattle.round_trip.proofs.Laws.Success.{success}
 
@@ -73,18 +71,11 @@ module _ (z : ℕ) (some : 0 < z) (g : Figures) (c : Cipher) (t b : List ℕ) (o
   nonce-16 : length (k .nonce) ≡ 16
   nonce-16 = length-nonce g c t ok
 
-  nonce-block : IsBlock (k .nonce)
-  unfolding padded
-  nonce-block =
-      record {
-        size = nonce-16;
-        bytes = rw (nonce-is g c t)
-            (bytes-append (g .nonce) (replicate (16 - length (g .nonce)) 0) nonce-bytes
-            (bytes-replicate (16 - length (g .nonce)) 0 (omega arith)));
-      }
+  nonce-is-block : IsBlock (k .nonce)
+  nonce-is-block = nonce-block g c t ok nonce-bytes
 
   payload-is : payload k text ≡ opened b
-  payload-is = ap (λ (x : Cipher). payloadBy x k text) (cipher-is g c t) ∙ payload-by c k b nonce-block payload-bytes
+  payload-is = ap (λ (x : Cipher). payloadBy x k text) (cipher-is g c t) ∙ payload-by c k b nonce-is-block payload-bytes
 
   starts : start t f ≡ begun k (firstBlock g c)
   starts = rw file-blocks (start-written g c t blocks ok (rw (← file-blocks) fits))

@@ -13,7 +13,7 @@ use lib.Seq.{length-take-le}
 use Rattle.refusals.specs.declared.Refusal.the-variants.{CutShort, TooManyRounds}
 use Rattle.refusals.specs.declared.Outcome.the-variants as outcome
 use Rattle.refusals.specs.declared.Written.the-variants.{Wrote}
-use Rattle.refusals.specs.Limits.{fileLimit, payloadLimit, roundsLimit, roundsLeast, writtenBlock}
+use Rattle.refusals.specs.Limits.{fileLimit, payloadLimit, roundsLimit, writtenBlock}
 use Rattle.refusals.proofs.Laws.Limits.{block-pieces}
 use Rattle.ciphers.specs.Ciphers.{cipherOf, nonceLength}
 use Rattle.ciphers.specs.declared.Cipher.{Cipher}
@@ -72,14 +72,14 @@ use Rattle.round_trip.specs.Worked.{
   inTwoBlocks,
   WorkedNumbers,
 }
-use Rattle.round_trip.specs.Writable.{KdfTaken, sizeOf}
+use Rattle.round_trip.specs.Writable.{sizeOf, Fits}
 use Rattle.round_trip.proofs.Laws.Started.{length-nonce}
 use Rattle.round_trip.proofs.Laws.Success.{shown-wrote}
 use Rattle.round_trip.proofs.Laws.Begun.{kdf-begins, begins-refuses, begins-accepts}
 use Rattle.round_trip.proofs.Laws.Fields.{header-field}
 use Rattle.round_trip.proofs.Laws.Cut.{has-5-27}
 use Rattle.round_trip.proofs.FewRounds.{few-rounds, checked-many}
-use Rattle.round_trip.proofs.Accepts.{length-fileBytes, checked-writes, size-plain}
+use Rattle.round_trip.proofs.Accepts.{checked-writes}
 
 -- a file of AES-KDF without custom data
 abbrev plainLength : Cipher → ℕ → ℕ
@@ -128,7 +128,8 @@ module _ (c : Cipher) (g : Figures) (p : Plain c g) where
   plain-writes t b n m f e l o r i =
       let s : sizeOf g c b ≡ m = size-is b ∙ e in
       let w : writing g t b n ≡ Wrote m =
-      checked-writes g c t b n checked (omega arith) (omega arith) (omega arith) ∙ ap Wrote s in
+      checked-writes g c t b n checked (record { payload-le = omega arith; file-le = omega arith; room = omega arith })
+      ∙ ap Wrote s in
       record { answers = w; shows = shown-wrote sizes g c t b n m checked w ∙ i }
 
 file-0 : plainLength Aes256 0 ≡ 359
@@ -265,24 +266,12 @@ handed-over : (t f : List ℕ) (k : Keys) (p : ℕ) → start t f ≡ begun k p 
 handed-over t f k p s z rooms e c l =
     opens.agrees t f .after-start k p s rooms .as-many e ∙ ap₂ (λ (x : Cipher) (n : ℕ). handed x n) z l
 
-taken : (rounds : ℕ) → 6_000 ≤ rounds → rounds ≤ 4_000_000 → KdfTaken (figures.AesKdf rounds) 32
-unfolding KdfTaken roundsLimit roundsLeast
-taken rounds l u = (refl, u, l)
-
--- figures of AES-KDF that pass, and whose file fits
+-- figures of AES-KDF that pass, where payload and file fit
 asks-writes : (c : Cipher) (rounds : ℕ) (g : Figures) → Asks c rounds g → 6_000 ≤ rounds → rounds ≤ 4_000_000
-    → g .custom ≡ []
-    → (t b : List ℕ) → length b ≤ 16_000_000 → (n : ℕ) → fileLimit ≤ n
-    → writing g t b n ≡ Wrote (length (shown g t b n))
-unfolding payloadLimit
-asks-writes c rounds g a l u e t b s n r =
-    let ok = few-rounds .writer-passes c rounds g a l u (no-custom-sound g e) in
-    let q : sizeOf g c b ≤ fileLimit =
-    rw (a .aes-kdf, e, a .kdf-seed-long) (size-plain c (figures.AesKdf rounds) 32 (length b) (taken rounds l u) s) in
-    let w = checked-writes g c t b n ok (omega arith) q (omega arith) in
-    let z : length (shown g t b n) ≡ sizeOf g c b =
-    ap length (shown-wrote sizes g c t b n (sizeOf g c b) ok w) ∙ length-fileBytes g c t b ok in
-    w ∙ ap Wrote (sym z)
+    → customVerdict (g .custom) ≡ outcome.Accepted
+    → (t b : List ℕ) (n : ℕ) → Fits g c b n
+    → writing g t b n ≡ Wrote (sizeOf g c b)
+asks-writes c rounds g a l u v t b n f = checked-writes g c t b n (few-rounds .writer-passes c rounds g a l u v) f
 
 -- 4,000,000 rounds, and one more
 most-is : roundsLimit ≡ 4_000_000
@@ -357,14 +346,14 @@ worked =
           (kdf-begins 4_000_001 s i
           ∙ rounds-more (bytesAt s (i .fields .kdf)) (i .fields .kdf) _ _ (i .has-rounds .seed-long)
           (i .has-rounds .rounds-given) (i .has-rounds .rounds-are));
-      written-most = λ c g a e t b l n r. asks-writes c 4_000_000 g a (omega arith) (omega arith) e t b l n r;
+      written-most = λ c g a v t b n f. asks-writes c 4_000_000 g a (omega arith) (omega arith) v t b n f;
       written-more = λ c g a t b n.
           sym (writing-refused g t b n (TooManyRounds 0) (checked-many c 4_000_001 g a (omega (arith, most-is))));
       started-most = λ composite seed. started-most composite seed;
       started-more = λ composite seed. started-more composite seed;
       read-6000 = λ c g a v rest f. few-rounds .reader-passes c 6_000 g a (omega arith) (omega arith) v rest f;
       read-5999 = λ c g a rest f. few-rounds .former-refused c 5_999 g a (omega arith) rest f;
-      written-6000 = λ c g a e t b l n r. asks-writes c 6_000 g a (omega arith) (omega arith) e t b l n r;
+      written-6000 = λ c g a v t b n f. asks-writes c 6_000 g a (omega arith) (omega arith) v t b n f;
       written-5999 = λ c g a t b n. few-rounds .writer-refuses c 5_999 g a (omega arith) t b n;
       eleven = λ s e. header-short s (omega arith) ∙ ap (λ (n : ℕ). read.Refused (CutShort n)) e;
     }

@@ -50,6 +50,7 @@ use Rattle.writer.specs.Written.{Figures, headerOf, encryptionBy, writing, show
 use Rattle.writer.specs.Stretches.{summed}
 use Rattle.round_trip.specs.Opens.{fileKeys, firstBlock}
 use Rattle.round_trip.specs.FewRounds.{Begins, roundsAt, Asks}
+use Rattle.round_trip.specs.Writable.{sizeOf, Fits}
 
 -- AES-KDF with figures that the writer takes, without custom data
 pub record Plain (c : Cipher) (g : Figures) : Type 0 where
@@ -213,9 +214,9 @@ pub record WorkedNumbers : Type 0 where
   pub read-more : (s : List ℕ) (i : Begins 4_000_001 s)
       → header s ≡ read.Refused (TooManyRounds (roundsAt 4_000_001 s i))
   -- .. the writer
-  pub written-most : (c : Cipher) (g : Figures) → Asks c 4_000_000 g → g .custom ≡ [] → (t b : List ℕ)
-      → length b ≤ 16_000_000 → (n : ℕ) → fileLimit ≤ n
-      → writing g t b n ≡ Wrote (length (shown g t b n))
+  pub written-most : (c : Cipher) (g : Figures) → Asks c 4_000_000 g → customVerdict (g .custom) ≡ outcome.Accepted
+      → (t b : List ℕ) (n : ℕ) → Fits g c b n
+      → writing g t b n ≡ Wrote (sizeOf g c b)
   pub written-more : (c : Cipher) (g : Figures) → Asks c 4_000_001 g
       → (t b : List ℕ) (n : ℕ) → writing g t b n ≡ Refused (TooManyRounds 0)
   -- .. and the start of AES-KDF
@@ -231,9 +232,9 @@ pub record WorkedNumbers : Type 0 where
   pub read-5999 : (c : Cipher) (g : Figures) → Asks c 5_999 g
       → (rest : List ℕ) → length (headerOf g c ++ rest) ≤ fileLimit
       → header (headerOf g c ++ rest) ≡ read.Refused (TooFewRounds (roundsItem c))
-  pub written-6000 : (c : Cipher) (g : Figures) → Asks c 6_000 g → g .custom ≡ [] → (t b : List ℕ)
-      → length b ≤ 16_000_000 → (n : ℕ) → fileLimit ≤ n
-      → writing g t b n ≡ Wrote (length (shown g t b n))
+  pub written-6000 : (c : Cipher) (g : Figures) → Asks c 6_000 g → customVerdict (g .custom) ≡ outcome.Accepted
+      → (t b : List ℕ) (n : ℕ) → Fits g c b n
+      → writing g t b n ≡ Wrote (sizeOf g c b)
   pub written-5999 : (c : Cipher) (g : Figures) → Asks c 5_999 g
       → (t b : List ℕ) (n : ℕ) → writing g t b n ≡ Refused (TooFewRounds 0)
   -- "Eleven bytes of anything: 2"

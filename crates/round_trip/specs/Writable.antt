@@ -31,6 +31,12 @@ KdfTaken (kdf.Argon2id passes memory lanes) n = Argon2Bounds n passes memory lan
 abbrev pub sizeOf : Figures → Cipher → List ℕ → ℕ
 sizeOf g c b = fileLength c (g .kdf) (length (g .salt)) (length (g .custom)) (length b)
 
+-- payload and file are within their limits (1), and the file has room (17)
+pub record Fits (g : Figures) (c : Cipher) (b : List ℕ) (n : ℕ) : Type 0 where
+  pub payload-le : length b ≤ payloadLimit
+  pub file-le : sizeOf g c b ≤ fileLimit
+  pub room : sizeOf g c b ≤ n
+
 pub record Writable (g : Figures) (c : Cipher) (b : List ℕ) (n : ℕ) : Type 0 where
   -- 4, 9
   pub minor-le : g .minor ≤ 1
@@ -42,11 +48,8 @@ pub record Writable (g : Figures) (c : Cipher) (b : List ℕ) (n : ℕ) : Type 0
   pub kdf-taken : KdfTaken (g .kdf) (length (g .salt))
   -- 10 or 6, where there is a custom dictionary
   pub custom-sound : customVerdict (g .custom) ≡ Accepted
-  -- 1
-  pub payload-le : length b ≤ payloadLimit
-  pub file-le : sizeOf g c b ≤ fileLimit
-  -- 17
-  pub room : sizeOf g c b ≤ n
+  -- 1, 17
+  pub fits : Fits g c b n
 
 -- the writer answered m with n bytes lent: the figures are such figures, and m is the file's length
 pub record IsWritten (g : Figures) (b : List ℕ) (n m : ℕ) : Type 0 where

@@ -10,11 +10,10 @@ use mathlib.Core.Path.{_≡_, refl, sym, ap, ap₂, _∙_}
 use mathlib.Core.List.{List, [], _++_, append-assoc, append-nil}
 use Prim.Native.Nat.{ℕ, _+_, _-_, _%_, _≤_, _<_}
 use native.Mathlib.Omega.{arith}
-use lib.ListN.{length, take, drop, replicate, length-append, length-drop, take-append-drop}
+use lib.ListN.{length, take, drop, length-append, length-drop, take-append-drop}
 use lib.Seq.{length-take-le}
 use Rattle.words.specs.Endian.{Bytes}
 use Rattle.words.specs.Block.{IsBlock}
-use Rattle.words.proofs.Laws.Bytes.{bytes-append, bytes-replicate}
 use Rattle.refusals.specs.Limits.{fileLimit}
 use Rattle.pkcs7.specs.Pkcs7.{pad, padding}
 use Rattle.pkcs7.proofs.Laws.Padding.{padding-padded, padded-pad, length-pad, bytes-pad}
@@ -26,14 +25,13 @@ use Rattle.block_stream.proofs.Laws.Judged.{length-blockBytes, judge-written}
 use Rattle.header_writer.specs.declared.Checked.the-variants.{As}
 use Rattle.opening.specs.declared.Keys.{Keys}
 use Rattle.opening.specs.Decryption.{decryptionBy}
-use Rattle.opening.specs.Steps.{padded}
 use Rattle.opening.specs.Worked.{ciphertext}
 use Rattle.opening.proofs.Laws.Payload.{length-encrypted}
 use Rattle.writer.specs.Written.{Figures, headerOf, encryptionBy, checkedOf}
 use Rattle.writer.proofs.Laws.Files.{length-summed}
 use Rattle.round_trip.specs.Opens.{fileKeys, firstBlock}
 use Rattle.round_trip.specs.Worked.{tagBaseOf, textOf, frontOf, in5And27, Has5And27}
-use Rattle.round_trip.proofs.Laws.Started.{cipher-is, nonce-is, length-nonce, start-written}
+use Rattle.round_trip.proofs.Laws.Started.{cipher-is, length-nonce, nonce-block, start-written}
 use Rattle.round_trip.proofs.Laws.Blocks.{found-closing, found-data, data-written}
 
 module _ (g : Figures) (t b : List ℕ) (ok : checkedOf g ≡ As Aes256) (short : length (headerOf g Aes256) ≡ 207)
@@ -136,22 +134,15 @@ module _ (g : Figures) (t b : List ℕ) (ok : checkedOf g ≡ As Aes256) (short 
   text-is : ciphertext f p ≡ text
   text-is = ap₂ (λ (x y : List ℕ). x ++ y) first-is second-is ∙ take-append-drop 5 text
 
-  nonce-block : IsBlock (k .nonce)
-  unfolding padded
-  nonce-block =
-      record {
-        size = length-nonce g Aes256 t ok;
-        bytes = rw (nonce-is g Aes256 t)
-            (bytes-append (g .nonce) (replicate (16 - length (g .nonce)) 0) nonce-bytes
-            (bytes-replicate (16 - length (g .nonce)) 0 (omega arith)));
-      }
+  nonce-is-block : IsBlock (k .nonce)
+  nonce-is-block = nonce-block g Aes256 t ok nonce-bytes
 
   plaintext-is : decryptionBy Aes256 k (ciphertext f p) ≡ pad b
   unfolding decryptionBy encryptionBy
   plaintext-is =
       let e : length (pad b) % 16 ≡ 0 = omega (arith, length-pad b) in
       ap (λ (x : List ℕ). decryptionBy Aes256 k x) text-is
-      ∙ aesCbc-decrypt-encrypt (k .«round_keys» .words) (k .nonce) nonce-block (pad b) e (bytes-pad b payload-bytes)
+      ∙ aesCbc-decrypt-encrypt (k .«round_keys» .words) (k .nonce) nonce-is-block (pad b) e (bytes-pad b payload-bytes)
 
   pub has-5-27 : Has5And27 g t b
   has-5-27 =

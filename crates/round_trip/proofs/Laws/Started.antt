@@ -1,15 +1,18 @@
 -- An opening starts at a written header with its hash and tag, whatever stands behind them.
 --
 -- In order:
---   cipher-is, nonce-is, length-nonce    the keys of a written file
---   start-written                        the start accepts, and the first block stands behind the tag
+--   cipher-is, nonce-is, length-nonce, nonce-block    the keys of a written file
+--   start-written                                     the start accepts, and the first block stands behind the tag
 -- Not here: hash and tag behind a header (Start).
 -- Assumes nothing.
 use mathlib.Core.Path.{_≡_, ap, ap₂, _∙_}
 use mathlib.Core.List.{List, _++_, append-assoc}
-use Prim.Native.Nat.{ℕ, _≤_}
+use Prim.Native.Nat.{ℕ, _-_, _≤_}
 use native.Mathlib.Omega.{arith}
-use lib.ListN.{length}
+use lib.ListN.{length, replicate}
+use Rattle.words.specs.Block.{IsBlock}
+use Rattle.words.specs.Endian.{Bytes}
+use Rattle.words.proofs.Laws.Bytes.{bytes-append, bytes-replicate}
 use Rattle.refusals.specs.Limits.{fileLimit}
 use Rattle.ciphers.specs.declared.Cipher.{Cipher}
 use Rattle.ciphers.proofs.Laws.{nonceLength-le}
@@ -48,6 +51,16 @@ module _ (g : Figures) (c : Cipher) (t : List ℕ) where
       let w = checked-as (g .minor) (g .cipher) (g .seed) (g .nonce) (g .kdf) (g .salt) (g .custom) c ok in
       let l : length (g .nonce) ≤ 16 = omega (arith, nonceLength-le c, w .nonce-long) in
       ap length nonce-is ∙ length-padded (g .nonce) l
+
+  pub nonce-block : checkedOf g ≡ As c → Bytes (g .nonce) → IsBlock (k .nonce)
+  unfolding padded
+  nonce-block ok b =
+      record {
+        size = length-nonce ok;
+        bytes = rw nonce-is
+            (bytes-append (g .nonce) (replicate (16 - length (g .nonce)) 0) b
+            (bytes-replicate (16 - length (g .nonce)) 0 (omega arith)));
+      }
 
 -- r is what stands behind the tag
 module _ (g : Figures) (c : Cipher) (t r : List ℕ) (ok : checkedOf g ≡ As c)
