@@ -35,8 +35,9 @@ use Rattle.kdf_dictionary.specs.declared.writer.Figures.the-variants as kdf
 use Rattle.header_writer.specs.Written.{customVerdict, headerLength}
 use Rattle.header_writer.specs.declared.Checked.the-variants.{As}
 use Rattle.header_writer.proofs.Laws.CheckedLaws.{checked-as, as-checked}
+use Rattle.cutting.specs.Cutting.{blockCount}
 use Rattle.writer.specs.Written.{Figures, sizes, settled, headerOf, fileCut, fileBytes, checkedOf, writing, shown}
-use Rattle.writer.specs.Stretches.{Sized, blockCount, fileLength, blocksLength, textLength}
+use Rattle.writer.specs.Stretches.{Sized, fileLength, blocksLength, textLength}
 use Rattle.writer.proofs.Laws.Checks.{checked-sized, writing-as, settled-wrote}
 use Rattle.writer.proofs.Laws.Files.{length-file}
 use Rattle.round_trip.specs.Opens.{WrittenOpens}

@@ -17,9 +17,10 @@ use Rattle.refusals.proofs.Laws.Limits.{block-positive, payload-raised, file-ra
 use Rattle.refusals.specs.declared.Written.the-variants.{Wrote}
 use Rattle.ciphers.specs.declared.Cipher.{Cipher}
 use Rattle.header_writer.specs.declared.Checked.the-variants.{As}
-use Rattle.writer.specs.Written.{Figures, Sizes, sizes, settled, cut, blocksFrom, headerOf, fileWith, fileCut, checkedOf, writingBy, writingWith, shownWith, shown}
-use Rattle.writer.specs.Stretches.{cutLength, summed}
-use Rattle.writer.proofs.Laws.Cut.{length-cut, length-blocks, cut-alike, count-le, count-lt}
+use Rattle.cutting.specs.Cutting.{cut, blocksFrom, cutLength}
+use Rattle.cutting.proofs.Laws.Cut.{length-cut, length-blocks, cut-alike, count-le, count-lt}
+use Rattle.writer.specs.Written.{Figures, Sizes, sizes, settled, headerOf, fileWith, fileCut, checkedOf, writingBy, writingWith, shownWith, shown}
+use Rattle.writer.specs.Stretches.{summed}
 use Rattle.round_trip.specs.Opens.{fileKeys}
 use Rattle.round_trip.specs.LargerBlocks.{before, ciphertext, LargerBlocks}
 use Rattle.round_trip.proofs.Laws.Success.{success, shown-wrote}

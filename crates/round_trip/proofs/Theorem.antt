@@ -20,6 +20,8 @@ use Rattle.refusals.specs.declared.Written.the-variants as written
 use Rattle.ciphers.specs.declared.Cipher.{Cipher}
 use Rattle.ciphers.specs.declared.Cipher.the-variants.{Aes256, ChaCha20}
 use Rattle.header_writer.specs.declared.Checked.the-variants.{As}
+use Rattle.cutting.specs.Cutting.{cut, blocksFrom}
+use Rattle.cutting.proofs.Laws.Cut.{length-blocks}
 use Rattle.opening.specs.declared.Keys.{Keys}
 use Rattle.opening.specs.Decryption.{opened, payloadBy, payload}
 use Rattle.opening.specs.Whole.{walk, whole, roomed, wholeIn}
@@ -29,9 +31,8 @@ use Rattle.opening.specs.Agreement.{stepAnswers, Roomy, OpenedStepwise}
 use Rattle.opening.proofs.Laws.Payload.{payload-aes, payload-chaCha}
 use Rattle.opening.proofs.Converse.{opened-steps, opened-stepwise}
 use Rattle.vault.specs.Vault.{start, begun, openedBy, openedIn}
-use Rattle.writer.specs.Written.{Figures, sizes, encryptionBy, cut, blocksFrom, headerOf, fileWith, fileCut, fileBytes, checkedOf, writing, shown}
+use Rattle.writer.specs.Written.{Figures, sizes, encryptionBy, headerOf, fileWith, fileCut, fileBytes, checkedOf, writing, shown}
 use Rattle.writer.specs.Stretches.{summed}
-use Rattle.writer.proofs.Laws.Cut.{length-blocks}
 use Rattle.writer.proofs.Laws.Files.{length-summed}
 use Rattle.round_trip.specs.Opens.{fileKeys, firstBlock, Opens, WrittenOpens}
 use Rattle.round_trip.proofs.Laws.Started.{cipher-is, length-nonce, nonce-block, start-written}

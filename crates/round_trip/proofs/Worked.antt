@@ -33,6 +33,7 @@ use Rattle.header_writer.specs.Written.{customVerdict, headerLength}
 use Rattle.header_writer.specs.declared.Checked.the-variants.{As}
 use Rattle.header_writer.proofs.Worked.{length-kdf, length-aes, length-chacha}
 use Rattle.block_stream.specs.Blocks.{blockBytes}
+use Rattle.cutting.specs.Cutting.{cutIn, blocksFrom, blockCount}
 use Rattle.opening.specs.declared.Keys.{Keys}
 use Rattle.opening.specs.declared.Phase.the-variants.{Ended}
 use Rattle.opening.specs.Decryption.{handed}
@@ -46,8 +47,6 @@ use Rattle.writer.specs.Written.{
   sizes,
   headerOf,
   encryptionBy,
-  cutIn,
-  blocksFrom,
   blocksOf,
   fileWith,
   fileCut,
@@ -56,7 +55,7 @@ use Rattle.writer.specs.Written.{
   writing,
   shown,
 }
-use Rattle.writer.specs.Stretches.{textLength, blockCount, blocksLength, fileLength}
+use Rattle.writer.specs.Stretches.{textLength, blocksLength, fileLength}
 use Rattle.writer.proofs.Laws.Blocks.{blocks-full, blocks-last}
 use Rattle.writer.proofs.Laws.Checks.{writing-refused}
 use Rattle.round_trip.specs.Opens.{fileKeys}

@@ -15,7 +15,8 @@ use Rattle.words.specs.Endian.{Bytes}
 use Rattle.refusals.specs.declared.Written.the-variants.{Wrote}
 use Rattle.ciphers.specs.declared.Cipher.{Cipher}
 use Rattle.header_writer.specs.declared.Checked.the-variants.{As}
-use Rattle.writer.specs.Written.{Figures, Sizes, sizes, encryptionBy, cut, checkedOf, fileCut, writingWith, shownWith, writing, shown}
+use Rattle.cutting.specs.Cutting.{cut}
+use Rattle.writer.specs.Written.{Figures, Sizes, sizes, encryptionBy, checkedOf, fileCut, writingWith, shownWith, writing, shown}
 use Rattle.round_trip.specs.Opens.{fileKeys, Opens}
 
 abbrev pub before : Sizes

@@ -1,6 +1,5 @@
 -- Laws of the writer: its stretches, its blocks, what its code lays down.
 pub mod Stretches
-pub mod Cut
 pub mod Blocks
 pub mod Laying
 pub mod Last

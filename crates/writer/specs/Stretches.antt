@@ -3,7 +3,7 @@
 --   stretchBy, prevBy          a stretch of the text encrypted, and the piece that what follows is chained to
 --   textOf, textLength         what is encrypted of a payload: for AES-256 with its padding
 --   blocksAt                   the blocks from a number on
---   blockCount, blocksLength   how many blocks there are, and how long they are
+--   blocksLength               how long they are
 --   summed                     a header with its hash and tag
 --   fileLength, fileOf         how long the file is, and the file
 --   Sized                      what the header's checks say of seed, nonce and salt
@@ -13,7 +13,7 @@
 -- Assumes nothing.
 use mathlib.Core.Path.{_≡_}
 use mathlib.Core.List.{List, [], _++_}
-use Prim.Native.Nat.{ℕ, _+_, _-_, _*_, _/_, _≤_}
+use Prim.Native.Nat.{ℕ, _+_, _≤_}
 use lib.ListN.{length}
 use Rattle.slices.specs.Over.{over}
 use Rattle.refusals.specs.declared.Written.{Written}
@@ -27,11 +27,12 @@ use Rattle.ciphers.specs.declared.Cipher.{Cipher}
 use Rattle.ciphers.specs.declared.Cipher.the-variants.{Aes256, ChaCha20}
 use Rattle.kdf_dictionary.specs.declared.writer.Figures.{Figures as KdfFigures}
 use Rattle.header_writer.specs.Written.{headerBytes, headerLength}
+use Rattle.cutting.specs.Cutting.{cut, blocksFrom, cutLength}
 use Rattle.opening.specs.declared.Keys.{Keys}
 use Rattle.opening.specs.Decryption.{chaChaFrom}
 use Rattle.opening.specs.Steps.{padded}
 use Rattle.vault_keys.specs.VaultKeys.{keysWith, headerHash, headerTag}
-use Rattle.writer.specs.Written.{cut, blocksFrom, fileWith}
+use Rattle.writer.specs.Written.{fileWith}
 
 unfoldable pub stretchBy : Cipher → Keys → List ℕ → ℕ → List ℕ → List ℕ
 stretchBy Aes256 k v p s = aes256Cbc.encrypt (k .«round_keys» .words) v s
@@ -60,14 +61,7 @@ blocksAt base i t = blocksFrom base i (cut writtenBlock t)
 abbrev pub lastBlocks : Keys → List ℕ → ℕ → ℕ → List ℕ → List ℕ
 lastBlocks k v i p b = blocksAt (k .base) i (stretchBy (k .cipher) k v p (textOf (k .cipher) b))
 
--- how many data blocks n bytes of ciphertext have, in blocks of z bytes, the last perhaps not full
-unfoldable pub blockCount : ℕ → ℕ → ℕ
-blockCount z n = (n + (z - 1)) / z
-
--- .. and how long they are, with the closing block
-abbrev pub cutLength : ℕ → ℕ → ℕ
-cutLength z n = n + 36 * (blockCount z n + 1)
-
+-- how long the blocks of n bytes of ciphertext are
 unfoldable pub blocksLength : ℕ → ℕ
 blocksLength n = cutLength writtenBlock n
 

@@ -4,19 +4,18 @@
 --   "the writer writes all three" KDFs, each with its own figures                                               Figures
 --   "Order: 4, 9, 5 (seeds, nonce), 11, 10 or 6, 1, 17"; "20, directly after 11"; Argon2's 22 in 11's place,
 --   "the writer's salt length included"                                                                         writing
---   "all data blocks are full except perhaps the last"                                                          cutIn
---   "A block of size 0 closes"                                                                                  blocksFrom
+--   "all data blocks are full except perhaps the last"                                                          blocksOf
 --   "Each block is written directly behind the bytes already laid down"                                         fileCut
 --   "raise the one library's file and payload limits .. and the written block" (document 02, Item 7)            sizes
 -- t is T. AES-256 in CBC mode over the padded payload (SP 800-38A, 6.2; RFC 5652, 6.3), ChaCha20 from counter 0. The
 -- answer and the file are said for any sizes: what the writer wrote with others is compared in crate round_trip.
--- Not here: the header (crate header_writer), a block's bytes (crate block_stream).
+-- Not here: the header (crate header_writer), a ciphertext in blocks (crate cutting).
 -- Assumes nothing.
 use mathlib.Core.Bool.{cond}
-use mathlib.Core.List.{List, [], _∷_, _++_}
-use Prim.Native.Nat.{ℕ, zero, suc}
-use lib.Dec.{eqb, leb, ltb}
-use lib.ListN.{length, take, drop}
+use mathlib.Core.List.{List, [], _++_}
+use Prim.Native.Nat.{ℕ}
+use lib.Dec.{leb, ltb}
+use lib.ListN.{length}
 use Rattle.refusals.specs.declared.Refusal.the-variants.{TooLong, NoRoom}
 use Rattle.refusals.specs.declared.Written.{Written}
 use Rattle.refusals.specs.declared.Written.the-variants as written
@@ -29,7 +28,7 @@ use Rattle.kdf_dictionary.specs.declared.writer.Figures.{Figures as KdfFigures}
 use Rattle.header_writer.specs.Written.{headerBytes, checked}
 use Rattle.header_writer.specs.declared.Checked.{Checked}
 use Rattle.header_writer.specs.declared.Checked.the-variants.{As, Refused}
-use Rattle.block_stream.specs.Blocks.{blockBytes}
+use Rattle.cutting.specs.Cutting.{cut, blocksFrom}
 use Rattle.opening.specs.declared.Keys.{Keys}
 use Rattle.opening.specs.Decryption.{chaChaFrom}
 use Rattle.opening.specs.Steps.{padded}
@@ -62,20 +61,6 @@ figures minor cipher seed nonce kdf salt custom =
 unfoldable pub encryptionBy : Cipher → Keys → List ℕ → List ℕ
 encryptionBy Aes256 k b = aes256Cbc.encrypt (k .«round_keys» .words) (k .nonce) (pad b)
 encryptionBy ChaCha20 k b = chaChaFrom k 0 b
-
--- the ciphertext t in pieces of z bytes, all full except perhaps the last; m counts down from the length of t, and
--- never ends it where z is positive
-unfoldable pub cutIn : ℕ → ℕ → List ℕ → List (List ℕ)
-cutIn z zero t = []
-cutIn z (suc m) t = cond (eqb (length t) 0) [] (take z t ∷ cutIn z m (drop z t))
-
-abbrev pub cut : ℕ → List ℕ → List (List ℕ)
-cut z t = cutIn z (length t) t
-
--- a data block for each piece, numbered from i on, and the closing block
-unfoldable pub blocksFrom : List ℕ → ℕ → List (List ℕ) → List ℕ
-blocksFrom base i [] = blockBytes base i []
-blocksFrom base i (d ∷ ds) = blockBytes base i d ++ blocksFrom base (suc i) ds
 
 -- the ciphertext t in blocks of the size that is written
 unfoldable pub blocksOf : List ℕ → List ℕ → List ℕ

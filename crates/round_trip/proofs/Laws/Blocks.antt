@@ -18,11 +18,11 @@ use Rattle.refusals.specs.Limits.{fileLimit}
 use Rattle.block_stream.specs.Blocks.{blockTag, blockBytes, found, judge, dataAt}
 use Rattle.block_stream.specs.declared.Block.the-variants.{Data, Closing}
 use Rattle.block_stream.proofs.Laws.Judged.{length-blockTag, length-blockBytes, judge-written}
+use Rattle.cutting.specs.Cutting.{cutIn, blocksFrom}
 use Rattle.opening.specs.declared.Keys.{Keys}
 use Rattle.opening.specs.Decryption.{payload}
 use Rattle.opening.specs.Whole.{closeOf, walkIn, walk}
 use Rattle.opening.proofs.Laws.Walk.{walk-suc}
-use Rattle.writer.specs.Written.{cutIn, blocksFrom}
 
 empty : (t : List ℕ) → length t ≡ 0 → t ≡ []
 empty [] h = refl

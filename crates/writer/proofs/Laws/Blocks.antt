@@ -4,7 +4,7 @@
 --   blocks-none, blocks-full, blocks-last       nothing left, a full block before the rest, the last one
 --   blocks-cut                                  a full block of a payload before the rest
 --   blocks-turn                                 one turn of the loop that writes them
--- Not here: how a ciphertext is cut (Cut), how code lays blocks (Laying).
+-- Not here: how a ciphertext is cut (crate cutting), how code lays blocks (Laying).
 -- Assumes nothing.
 use mathlib.Core.Path.{_≡_, sym, ap, ap₂, _∙_}
 use mathlib.Core.List.{List, [], _++_}
@@ -16,10 +16,10 @@ use Rattle.refusals.specs.Limits.{writtenBlock}
 use Rattle.refusals.proofs.Laws.Limits.{block-positive, block-pieces}
 use Rattle.block_stream.specs.Blocks.{blockBytes}
 use Rattle.block_stream.proofs.Laws.Judged.{length-blockBytes}
+use Rattle.cutting.specs.Cutting.{blocksFrom}
+use Rattle.cutting.proofs.Laws.Cut.{cut-none, cut-full, cut-last}
 use Rattle.opening.specs.declared.Keys.{Keys}
-use Rattle.writer.specs.Written.{blocksFrom}
 use Rattle.writer.specs.Stretches.{stretchBy, prevBy, textOf, blocksAt, lastBlocks}
-use Rattle.writer.proofs.Laws.Cut.{cut-none, cut-full, cut-last}
 use Rattle.writer.proofs.Laws.Stretches.{textOf-append, stretch-append, length-stretch}
 
 pub blocks-none : (base : List ℕ) (i : ℕ) (t : List ℕ) → length t ≡ 0 → blocksAt base i t ≡ blockBytes base i []

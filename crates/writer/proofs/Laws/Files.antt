@@ -24,6 +24,7 @@ use Rattle.ciphers.proofs.Laws.{nonceLength-le}
 use Rattle.kdf_dictionary.specs.declared.writer.Figures.{Figures as KdfFigures}
 use Rattle.header_writer.specs.Written.{headerBytes, headerLength}
 use Rattle.header_writer.proofs.Laws.Layout.{length-headerBytes}
+use Rattle.cutting.proofs.Laws.Cut.{length-blocks}
 use Rattle.opening.specs.declared.Keys.{Keys}
 use Rattle.opening.specs.Steps.{padded}
 use Rattle.opening.proofs.Laws.Nonce.{length-padded}
@@ -32,7 +33,6 @@ use Rattle.vault_keys.proofs.Laws.{keysWith-cipher, keysWith-nonce, length-head
 use Rattle.writer.specs.Written.{encryptionBy, blocksOf, fileWith}
 use Rattle.writer.specs.Stretches.{textLength, blocksLength, fileLength, fileOf, summed, Sized}
 use Rattle.writer.proofs.Laws.Stretches.{encryption-text, length-stretch-text, length-textOf}
-use Rattle.writer.proofs.Laws.Cut.{length-blocks}
 
 pub headerLength-salt : (c : Cipher) (fig : KdfFigures) (salt : List ℕ) (m : ℕ) → length salt ≤ 64
     → headerLength c fig (length (take 64 salt)) m ≡ headerLength c fig (length salt) m

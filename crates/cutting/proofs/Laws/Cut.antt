@@ -3,23 +3,39 @@
 -- In order:
 --   cutIn-same                       the count that ends it need only be large enough
 --   cut-none, cut-full, cut-last     nothing left, a full piece before the rest, the last one
---   length-cut, length-blocks        how many pieces there are, and how long their blocks are
+--   length-cut                       how many pieces there are
+--   joined-cut, cut-nonempty         they are the ciphertext again, and none is empty
+--   pieces-at, total-at, positive-at, length-at
+--                                    so this is one of the cuttings into any positive sizes that add up
+--   length-blocks                    how long their blocks are
 --   cut-alike                        what is within two sizes is cut alike
 --   count-le, count-lt               larger pieces are no more, and of twice the size fewer, where one is not enough
 -- Assumes nothing.
-use mathlib.Core.Path.{_≡_, refl, sym, ap, _∙_}
+use mathlib.Core.Path.{_≡_, refl, sym, ap, ap₂, _∙_}
 use mathlib.Core.List.{List, [], _∷_, _++_}
 use Prim.Native.Nat.{ℕ, zero, suc, _+_, _-_, _*_, _/_, _≤_, _<_}
 use native.Mathlib.Nat.{zero-mul, suc-mul, mul-add, mul-le-mul-left, div-eq-of-lt, div-eq-sub-div, div-mul-le-self, le-div-iff-mul-le}
 use native.Mathlib.Omega.{arith}
 use lib.Dec.{eqb, leb}
-use lib.ListN.{length, take, drop, length-append, length-drop, drop-of-length-le, take-append-drop}
+use lib.ListN.{length, take, drop, length-append, length-take, length-drop, drop-of-length-le, take-append-drop}
 use lib.Seq.{take-all, take-at, drop-at}
 use borrow.Author.Tests.{eq-eqb, ne-eqb, eqb-true, eqb-false, leb-true, leb-false}
 use Rattle.words.proofs.Laws.Cases.{by-bool}
-use Rattle.block_stream.proofs.Laws.Judged.{length-blockBytes}
-use Rattle.writer.specs.Written.{cutIn, cut, blocksFrom}
-use Rattle.writer.specs.Stretches.{blockCount, cutLength}
+use Rattle.cutting.specs.Cutting.{
+  Positive,
+  total,
+  pieces,
+  cutIn,
+  cut,
+  blocksFrom,
+  joined,
+  sizesAt,
+  NonEmpty,
+  blockCount,
+  cutLength,
+}
+use Rattle.cutting.proofs.Laws.Pieces.{length-nil, pieces-lengths, total-lengths, lengths-positive, length-lengths}
+use Rattle.cutting.proofs.Laws.Blocks.{length-blocksFrom}
 
 -- rounding up: none, and one more
 round-none : (n : ℕ) → 0 < n → (0 + (n - 1)) / n ≡ 0
@@ -101,26 +117,50 @@ module _ (z : ℕ) (some : 0 < z) where
   pub length-cut : (t : List ℕ) → length (cut z t) ≡ blockCount z (length t)
   length-cut t = length-cutIn (length t) t (omega arith)
 
-  length-from : (m : ℕ) (base : List ℕ) (i : ℕ) (t : List ℕ) → length t ≤ m
-      → length (blocksFrom base i (cutIn z m t)) ≡ length t + 36 * (length (cutIn z m t) + 1)
-  unfolding cutIn blocksFrom
-  length-from zero base i t h =
-      let e : length t ≡ 0 = omega arith in
-      length-blockBytes base [] i ∙ rw e
-  length-from (suc m) base i t h =
+  joined-cutIn : (m : ℕ) (t : List ℕ) → length t ≤ m → joined (cutIn z m t) ≡ t
+  unfolding cutIn joined
+  joined-cutIn zero t h = sym (length-nil t (omega arith))
+  joined-cutIn (suc m) t h =
       by-bool (eqb (length t) 0)
-      (λ e. rw (e, eqb-true (length t) 0 e) (length-blockBytes base [] i))
+      (λ e. rw e (sym (length-nil t (eqb-true (length t) 0 e))))
       (λ e.
       let d = eqb-false (length t) 0 e in
-      let f = length-from m base (suc i) (drop z t) (shorter t m h d) in
-      let g : length (take z t) + length (drop z t) ≡ length t =
-      sym (length-append (take z t) (drop z t)) ∙ ap length (take-append-drop z t) in
-      rw (e, length-append, length-blockBytes, f) (omega (arith, g)))
+      rw e (ap (λ (r : List ℕ). take z t ++ r) (joined-cutIn m (drop z t) (shorter t m h d)) ∙ take-append-drop z t))
+
+  pub joined-cut : (t : List ℕ) → joined (cut z t) ≡ t
+  joined-cut t = joined-cutIn (length t) t (omega arith)
+
+  cutIn-some : (m : ℕ) (t : List ℕ) → NonEmpty (cutIn z m t)
+  unfolding cutIn NonEmpty
+  cutIn-some zero t = tt
+  cutIn-some (suc m) t =
+      by-bool (eqb (length t) 0)
+      (λ e. rw e tt)
+      (λ e.
+      let d = eqb-false (length t) 0 e in
+      rw e (omega (arith, length-take z t), cutIn-some m (drop z t)))
+
+  pub cut-nonempty : (t : List ℕ) → NonEmpty (cut z t)
+  cut-nonempty t = cutIn-some (length t) t
+
+  -- they are the pieces of a cutting into any sizes
+  pub pieces-at : (t : List ℕ) → pieces (sizesAt z t) t ≡ cut z t
+  pieces-at t = ap (pieces (sizesAt z t)) (sym (joined-cut t)) ∙ pieces-lengths (cut z t)
+
+  pub total-at : (t : List ℕ) → total (sizesAt z t) ≡ length t
+  total-at t = total-lengths (cut z t) ∙ ap length (joined-cut t)
+
+  pub positive-at : (t : List ℕ) → Positive (sizesAt z t)
+  positive-at t = lengths-positive (cut z t) (cut-nonempty t)
+
+  pub length-at : (t : List ℕ) → length (sizesAt z t) ≡ blockCount z (length t)
+  length-at t = length-lengths (cut z t) ∙ length-cut t
 
   pub length-blocks : (base : List ℕ) (i : ℕ) (t : List ℕ)
       → length (blocksFrom base i (cut z t)) ≡ cutLength z (length t)
   length-blocks base i t =
-      length-from (length t) base i t (omega arith) ∙ ap (λ (n : ℕ). length t + 36 * (n + 1)) (length-cut t)
+      length-blocksFrom base i (cut z t)
+      ∙ ap₂ (λ (n m : ℕ). n + 36 * (m + 1)) (ap length (joined-cut t)) (length-cut t)
 
 pub cut-alike : (z w : ℕ) → 0 < z → 0 < w → (t : List ℕ) → length t ≤ z → length t ≤ w → cut w t ≡ cut z t
 cut-alike z w hz hw t lz lw =

@@ -1,0 +1,79 @@
+-- The blocks of pieces, and how they stand in a file.
+--
+-- In order:
+--   found-closing, found-data      what a block of a size is found to be
+--   data-behind                    a block's data stand behind its tag and size
+--   blocks-stand                   blocks of pieces pass, and are found with their data
+--   blocks-inside                  .. and lie within the file
+--   length-blocksFrom              how long they are
+-- Assumes nothing.
+use mathlib.Core.Path.{_≡_, refl, sym, ap, _∙_}
+use mathlib.Core.List.{List, [], _∷_, _++_, append-assoc, append-nil}
+use Prim.Native.Nat.{ℕ, suc, _+_, _*_, _≤_}
+use native.Mathlib.Omega.{arith}
+use lib.ListN.{length, take, drop, length-append, length-drop}
+use lib.Seq.{take-append-seam, drop-at, drop-drop, drop-append-seam}
+use borrow.Author.Tests.{ne-eqb}
+use Rattle.words.specs.Endian.{leBytes}
+use Rattle.words.proofs.Laws.Endian.{length-leBytes}
+use Rattle.refusals.specs.Limits.{fileLimit}
+use Rattle.block_stream.specs.Blocks.{blockTag, blockBytes, found}
+use Rattle.block_stream.specs.declared.Block.the-variants.{Data, Closing}
+use Rattle.block_stream.proofs.Laws.Judged.{length-blockTag, length-blockBytes, judge-standing}
+use Rattle.cutting.specs.Cutting.{blocksFrom, joined, NonEmpty, InBlocks}
+
+found-closing : found 0 ≡ Closing
+unfolding found
+found-closing = refl
+
+found-data : (n : ℕ) → 1 ≤ n → found n ≡ Data n
+unfolding found
+found-data n h = rw (ne-eqb n 0 (λ e. omega arith))
+
+-- a block with the data d at p, and r behind it
+data-behind : (base d r f : List ℕ) (i p : ℕ) → drop p f ≡ blockBytes base i d ++ r → drop (p + 36) f ≡ d ++ r
+unfolding blockBytes
+data-behind base d r f i p e =
+    let size = leBytes 4 (length d) in
+    let tag = blockTag base i (size ++ d) in
+    let a : (tag ++ (size ++ d)) ++ r ≡ (tag ++ size) ++ (d ++ r) = rw (append-assoc, append-assoc, append-assoc) in
+    let l : length (tag ++ size) ≡ 36 =
+    length-append tag size ∙ omega (arith, length-blockTag base (size ++ d) i, length-leBytes 4 (length d)) in
+    sym (drop-drop 36 p f) ∙ ap (drop 36) (e ∙ a) ∙ drop-at (tag ++ size) (d ++ r) 36 l
+
+pub blocks-stand : (base f : List ℕ) → length f ≤ fileLimit → (ds : List (List ℕ)) (i p : ℕ)
+    → drop p f ≡ blocksFrom base i ds → NonEmpty ds
+    → InBlocks base f i p ds
+unfolding blocksFrom NonEmpty InBlocks
+blocks-stand base f l [] i p e h = (
+  judge-standing base [] [] f i p l (e ∙ sym (append-nil (blockBytes base i []))) ∙ found-closing,
+  omega (arith, length-drop p f, ap length e, length-blockBytes base [] i),
+)
+blocks-stand base f l (d ∷ ds) i p e h =
+    let r = blocksFrom base (suc i) ds in
+    let b : drop (p + 36) f ≡ d ++ r = data-behind base d r f i p e in
+    let n : drop (p + 36 + length d) f ≡ r =
+    sym (drop-drop (length d) (p + 36) f) ∙ ap (drop (length d)) b ∙ drop-append-seam d r in (
+      judge-standing base d r f i p l e ∙ found-data (length d) (h .0),
+      (ap (take (length d)) b ∙ take-append-seam d r, blocks-stand base f l ds (suc i) (p + 36 + length d) n (h .1)),
+    )
+
+pub blocks-inside : (base f : List ℕ) (ds : List (List ℕ)) (i p : ℕ) → InBlocks base f i p ds
+    → p + 36 * (length ds + 1) ≤ length f
+unfolding InBlocks
+blocks-inside base f [] i p h = omega (arith, h .1)
+blocks-inside base f (d ∷ ds) i p h =
+    omega (arith, blocks-inside base f ds (suc i) (p + 36 + length d) (h .1 .1))
+
+pub length-blocksFrom : (base : List ℕ) (i : ℕ) (ds : List (List ℕ))
+    → length (blocksFrom base i ds) ≡ length (joined ds) + 36 * (length ds + 1)
+unfolding blocksFrom joined
+length-blocksFrom base i [] = length-blockBytes base [] i
+length-blocksFrom base i (d ∷ ds) =
+    length-append (blockBytes base i d) (blocksFrom base (suc i) ds)
+    ∙ omega (
+      arith,
+      length-blockBytes base d i,
+      length-append d (joined ds),
+      length-blocksFrom base (suc i) ds,
+    )
