@@ -1,18 +1,19 @@
--- The other way round, for demand 2: where the whole opener opens a file, so does every list with as many steps with
--- room as the file has bytes.
+-- The other way round, for demand 2 and Item 13: where the whole opener opens a file, so does every list with as many
+-- steps with room as the file has blocks, the closing one included.
 --
 -- In order: roomed-opened, wholeIn-same (what is opened does not depend on the room), opened-steps (the theorem),
 -- opened-stepwise (the same, where each step is lent fifteen bytes more than the next block's size).
 -- Not here: the start (crate vault).
 -- Assumes nothing.
 use mathlib.Core.Path.{_≡_, _∙_}
-use mathlib.Core.List.{List}
-use Prim.Native.Nat.{ℕ, _≤_, _<_}
+use mathlib.Core.List.{List, []}
+use Prim.Native.Nat.{ℕ, suc, _≤_, _<_}
 use native.Mathlib.Omega.{arith}
 use lib.Dec.{ltb}
 use lib.ListN.{length}
 use Rattle.words.proofs.Laws.Cases.{by-bool}
 use Rattle.refusals.specs.Limits.{fileLimit}
+use Rattle.cutting.specs.Cutting.{InBlocks}
 use Rattle.opening.specs.declared.Keys.{Keys}
 use Rattle.opening.specs.declared.Phase.the-variants.{Ended}
 use Rattle.opening.specs.Decryption.{Opened, refused, opened}
@@ -31,9 +32,10 @@ use Rattle.opening.specs.Agreement.{
   OpenedStepwise,
 }
 use Rattle.opening.proofs.Laws.Replies.{never}
-use Rattle.opening.proofs.Theorem.{agrees, all-room}
+use Rattle.opening.proofs.Laws.Cutting.{run-blocks}
+use Rattle.opening.proofs.Theorem.{finished, agrees, all-room}
 
-roomed-opened : (n : ℕ) (v : Opened) (b : List ℕ) → roomed n v ≡ opened b → v ≡ opened b
+pub roomed-opened : (n : ℕ) (v : Opened) (b : List ℕ) → roomed n v ≡ opened b → v ≡ opened b
 unfolding roomed
 roomed-opened n (refused r) b h = never (cc)
 roomed-opened n (opened d) b h =
@@ -55,21 +57,24 @@ finished-ended : (k : Keys) (f : List ℕ) (p n : ℕ) (rooms b : List ℕ) → 
 finished-ended k f p n rooms b h (by-closing e) = e
 finished-ended k f p n rooms b h (by-refusal e r c s g) = let z = g n in never (cc)
 
-pub opened-steps : (k : Keys) → length (k .nonce) ≡ 16 → (f : List ℕ) (p : ℕ) → length f ≤ fileLimit → 0 < p
-    → p ≤ length f
-    → (n : ℕ) (b : List ℕ) → wholeIn k f p n ≡ opened b
-    → (rooms : List ℕ) → length f ≤ withRoom (stepAnswers k f p rooms) → OpenedStepwise k f p rooms b
-opened-steps k w f p l o i n b h rooms many =
-    let r : RunAgrees k f p rooms = agrees k w f p l o i rooms in
-    let e = finished-ended k f p n rooms b h (r .ends many) in
-    let c : List ℕ = handedOver k f p rooms in
-    let g : wholeIn k f p (length c) ≡ opened c = r .whole-gives e (length c) (omega arith) in
-    record { ended = r .phase-is ∙ e; bytes-are = wholeIn-same k f p (length c) n c b g h }
+-- a file in the blocks of ds
+module _ (k : Keys) (w : length (k .nonce) ≡ 16) (f : List ℕ) (p : ℕ) (l : length f ≤ fileLimit) (o : 0 < p)
+    (i : p ≤ length f) (ds : List (List ℕ)) (stand : InBlocks (k .base) f 0 p ds) (n : ℕ) (b : List ℕ)
+    (h : wholeIn k f p n ≡ opened b) where
+  -- more steps with room than data blocks
+  pub opened-steps : (rooms : List ℕ) → length ds < withRoom (stepAnswers k f p rooms) → OpenedStepwise k f p rooms b
+  unfolding plainStart
+  opened-steps rooms many =
+      let r : RunAgrees k f p rooms = agrees k w f p l o i rooms in
+      let c : List ℕ = handedOver k f p rooms in
+      let e = finished-ended k f p n rooms b h
+      (finished k w f l p i rooms (run-blocks k f rooms ds 0 p [] stand (rw (r .answers-are) at many))) in
+      let g : wholeIn k f p (length c) ≡ opened c = r .whole-gives e (length c) (omega arith) in
+      record { ended = r .phase-is ∙ e; bytes-are = wholeIn-same k f p (length c) n c b g h }
 
-pub opened-stepwise : (k : Keys) → length (k .nonce) ≡ 16 → (f : List ℕ) (p : ℕ) → length f ≤ fileLimit → 0 < p
-    → p ≤ length f
-    → (n : ℕ) (b : List ℕ) → wholeIn k f p n ≡ opened b
-    → (rooms : List ℕ) → length f ≤ length rooms → Roomy k f (plainStart p) rooms → OpenedStepwise k f p rooms b
-opened-stepwise k w f p l o i n b h rooms many roomy =
-    opened-steps k w f p l o i n b h rooms
-    (all-room k f p rooms many (agrees k w f p l o i rooms .room roomy))
+  -- more steps than data blocks, each with fifteen bytes more than the next block's size
+  pub opened-stepwise : (rooms : List ℕ) → length ds < length rooms → Roomy k f (plainStart p) rooms
+      → OpenedStepwise k f p rooms b
+  opened-stepwise rooms many roomy =
+      opened-steps rooms
+      (all-room k f p rooms (suc (length ds)) many (agrees k w f p l o i rooms .room roomy))

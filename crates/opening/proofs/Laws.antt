@@ -16,6 +16,7 @@
 --   Refusals    what a step's refusal says
 --   Runs        lists of steps
 --   Walk        the whole opener's count never ends a walk
+--   Cutting     the openers over a file in blocks of any sizes
 --   Kept        what each answer leaves in any state
 pub mod Nonce
 pub mod Replies
@@ -32,4 +33,5 @@ pub mod Progress
 pub mod Refusals
 pub mod Runs
 pub mod Walk
+pub mod Cutting
 pub mod Kept

@@ -150,15 +150,18 @@ module _ (k : Keys) (w : length (k .nonce) ≡ 16) (f : List ℕ) (l : length f 
         let n = run-moves k f (plainStart p) rooms e in
         rw (stepAnswers-plain rooms) (omega (arith, plainAfter-reached rooms .inside, a, n))
 
-    finished : 0 < p → (rooms : List ℕ) (m : Phase) → plainAfter k f p rooms .phase ≡ m
-        → length f ≤ withRoom (stepAnswers k f p rooms) → Finished k f p rooms
-    finished o rooms Open e l = absurd (omega (arith, open-short rooms e))
-    finished o rooms Closed e l =
+    finished-by : (rooms : List ℕ) (m : Phase) → plainAfter k f p rooms .phase ≡ m → m ≢ Open → Finished k f p rooms
+    finished-by rooms Open e o = absurd (o refl)
+    finished-by rooms Closed e o =
         let c = run-closed k f (plainStart p) rooms (plainStart-phase p) e in
         let s : Some (λ (a : Answer). a .written ≡ written.Refused (c .refusal)) (stepAnswers k f p rooms) =
         rw (stepAnswers-plain rooms) (c .given-by) in
         by-refusal e (c .refusal) (c .closing) s (some-refused k f p (c .refusal) (c .closing) (refused-alike rooms) s)
-    finished o rooms Ended e l = by-closing e
+    finished-by rooms Ended e o = by-closing e
+
+    -- a run that is not open has finished
+    pub finished : (rooms : List ℕ) → plainAfter k f p rooms .phase ≢ Open → Finished k f p rooms
+    finished rooms o = finished-by rooms (plainAfter k f p rooms .phase) refl o
 
     next-short : (rooms : List ℕ) (n : ℕ) → countOf (stepOf f (stateAfter k f p rooms) n .answer .written)
         ≤ sizeAt f (plainAfter k f p rooms .at) + 15
@@ -197,17 +200,17 @@ agrees k w f p l o i rooms =
       whole-gives = λ e n h.
           wholeIn-opened k f p n (handedOver k f p rooms) (handedOver-ended k w f l p i rooms e .whole-is) h;
       refusals = refused-alike k w f l p i rooms;
-      ends = λ n. finished k w f l p i o rooms (plainAfter k f p rooms .phase) refl n;
+      ends = λ n. finished k w f l p i rooms (λ e. omega (arith, open-short k w f l p i rooms e));
       room = λ m. rw (stepAnswers-plain k w f l p i rooms) (run-room k w f (plainStart p) rooms m);
       step-le = next-short k w f l p i rooms;
       firsts = λ g q others lg iq ef eg n same. firsts-same k w f l p i rooms g lg q iq others ef eg n same;
     }
 
--- as many steps as the file has bytes, none refused with 17
-pub all-room : (k : Keys) (f : List ℕ) (p : ℕ) (rooms : List ℕ) → length f ≤ length rooms
+-- m steps, none refused with 17
+pub all-room : (k : Keys) (f : List ℕ) (p : ℕ) (rooms : List ℕ) (m : ℕ) → m ≤ length rooms
     → Each (λ (a : Answer). a .written ≢ written.Refused NoRoom) (stepAnswers k f p rooms)
-    → length f ≤ withRoom (stepAnswers k f p rooms)
-all-room k f p rooms l h =
+    → m ≤ withRoom (stepAnswers k f p rooms)
+all-room k f p rooms m l h =
     let a = withRoom-all (stepAnswers k f p rooms) h in
     let b = length-answers (stepOf f) (openStart k p) rooms in
     omega (arith, a, b)

@@ -1,15 +1,14 @@
 -- Demand 2: whatever the writer accepts opens to the same payload under the same T, whole and block by block.
 --
--- In order: the file's parts; starts, whole, stepwise and roomy, each field of Opens; written-opens, the theorem, for
--- blocks of any positive size; writing-opens, of what the writer's contract says it answers and leaves.
--- Not here: which figures the writer takes (Accepts).
+-- In order: the file's parts, its start and its payload; written-opens, the theorem, for blocks of any positive size;
+-- writing-opens, of what the writer's contract says it answers and leaves.
+-- Not here: which figures the writer takes (Accepts); that a file in blocks opens (crate recutting).
 -- Assumes nothing.
 use mathlib.Core.Path.{_≡_, refl, sym, ap, _∙_}
-use mathlib.Core.List.{List, [], _++_}
-use Prim.Native.Nat.{ℕ, suc, _+_, _-_, _≤_, _<_}
+use mathlib.Core.List.{List, _++_}
+use Prim.Native.Nat.{ℕ, _≤_, _<_}
 use native.Mathlib.Omega.{arith}
-use lib.ListN.{length, take, drop, length-append}
-use borrow.Author.Tests.{le-ltb}
+use lib.ListN.{length, take, drop}
 use Rattle.slices.specs.Over.{over}
 use Rattle.slices.proofs.Laws.Over.{take-over, drop-over}
 use Rattle.refusals.proofs.Laws.Limits.{block-positive}
@@ -21,22 +20,17 @@ use Rattle.ciphers.specs.declared.Cipher.{Cipher}
 use Rattle.ciphers.specs.declared.Cipher.the-variants.{Aes256, ChaCha20}
 use Rattle.header_writer.specs.declared.Checked.the-variants.{As}
 use Rattle.cutting.specs.Cutting.{cut, blocksFrom}
-use Rattle.cutting.proofs.Laws.Cut.{length-blocks}
+use Rattle.cutting.proofs.Laws.Cut.{length-cut, joined-cut, cut-nonempty}
 use Rattle.opening.specs.declared.Keys.{Keys}
 use Rattle.opening.specs.Decryption.{opened, payloadBy, payload}
-use Rattle.opening.specs.Whole.{walk, whole, roomed, wholeIn}
-use Rattle.opening.specs.Plain.{plainStart}
-use Rattle.opening.specs.Runs.{withRoom}
-use Rattle.opening.specs.Agreement.{stepAnswers, Roomy, OpenedStepwise}
 use Rattle.opening.proofs.Laws.Payload.{payload-aes, payload-chaCha}
-use Rattle.opening.proofs.Converse.{opened-steps, opened-stepwise}
-use Rattle.vault.specs.Vault.{start, begun, openedBy, openedIn}
+use Rattle.vault.specs.Vault.{start, begun}
+use Rattle.recutting.proofs.Opens.{begun-blocks}
 use Rattle.writer.specs.Written.{Figures, sizes, encryptionBy, headerOf, fileWith, fileCut, fileBytes, checkedOf, writing, shown}
 use Rattle.writer.specs.Stretches.{summed}
 use Rattle.writer.proofs.Laws.Files.{length-summed}
 use Rattle.round_trip.specs.Opens.{fileKeys, firstBlock, Opens, WrittenOpens}
-use Rattle.round_trip.proofs.Laws.Started.{cipher-is, length-nonce, nonce-block, start-written}
-use Rattle.round_trip.proofs.Laws.Blocks.{walk-blocks}
+use Rattle.round_trip.proofs.Laws.Started.{cipher-is, nonce-block, start-written}
 use Rattle.round_trip.proofs.Laws.Success.{success}
 
 payload-by : (c : Cipher) (k : Keys) (b : List ℕ) → IsBlock (k .nonce) → Bytes b → payloadBy c k (encryptionBy c k b) ≡ opened b
@@ -69,9 +63,6 @@ module _ (z : ℕ) (some : 0 < z) (g : Figures) (c : Cipher) (t b : List ℕ) (o
   length-front : length front ≡ firstBlock g c
   length-front = length-summed (k .base) (headerOf g c)
 
-  nonce-16 : length (k .nonce) ≡ 16
-  nonce-16 = length-nonce g c t ok
-
   nonce-is-block : IsBlock (k .nonce)
   nonce-is-block = nonce-block g c t ok nonce-bytes
 
@@ -81,54 +72,18 @@ module _ (z : ℕ) (some : 0 < z) (g : Figures) (c : Cipher) (t b : List ℕ) (o
   starts : start t f ≡ begun k (firstBlock g c)
   starts = rw file-blocks (start-written g c t blocks ok (rw (← file-blocks) fits))
 
-  text-le : length text ≤ length f
-  text-le =
-      let a = length-blocks z some (k .base) 0 text in
-      rw (file-blocks, length-append) (omega arith)
-
-  whole-is : whole k f (firstBlock g c) ≡ opened b
-  unfolding whole
-  whole-is =
-      ap (λ (p : ℕ). walk (suc (length f)) k f 0 p []) (sym length-front)
-      ∙ walk-blocks k z some (length text) (length f) 0 front text f [] file-blocks fits
-      (omega arith) text-le
-      ∙ payload-is
-
-  wholeIn-is : (n : ℕ) → length b ≤ n → wholeIn k f (firstBlock g c) n ≡ opened b
-  unfolding wholeIn roomed
-  wholeIn-is n l = rw (whole-is, le-ltb n (length b) l)
-
-  opens-whole : (n : ℕ) → length b ≤ n → openedIn t f n ≡ opened b
-  unfolding openedIn openedBy
-  opens-whole n l = rw starts (wholeIn-is n l)
-
-  inside : firstBlock g c ≤ length f
-  inside = rw (file-blocks, length-append) (omega (arith, length-front))
-
-  opens-stepwise : (rooms : List ℕ) → length f ≤ withRoom (stepAnswers k f (firstBlock g c) rooms)
-      → OpenedStepwise k f (firstBlock g c) rooms b
-  opens-stepwise rooms many =
-      opened-steps k nonce-16 f (firstBlock g c) fits (omega arith) inside (length b) b
-      (wholeIn-is (length b) (omega arith)) rooms many
-
-  opens-roomy : (rooms : List ℕ) → length f ≤ length rooms
-      → Roomy k f (plainStart (firstBlock g c)) rooms
-      → OpenedStepwise k f (firstBlock g c) rooms b
-  opens-roomy rooms many roomy =
-      opened-stepwise k nonce-16 f (firstBlock g c) fits (omega arith) inside (length b) b
-      (wholeIn-is (length b) (omega arith)) rooms many roomy
+  opens : Opens z g c t b f
+  unfolding fileCut fileWith
+  opens =
+      rw (← length-cut z some text)
+      (begun-blocks t front k (firstBlock g c) b (cut z text) length-front fits (cut-nonempty z some text) starts
+      (ap (λ (x : List ℕ). payload k x) (joined-cut z some text) ∙ payload-is))
 
 -- THE THEOREM, for blocks of any positive size
 pub written-opens : (z : ℕ) → 0 < z → (g : Figures) (c : Cipher) (t b : List ℕ) → checkedOf g ≡ As c → Bytes b
     → Bytes (g .nonce) → length (fileCut z g c t b) ≤ fileLimit
-    → Opens g c t b (fileCut z g c t b)
-written-opens z some g c t b ok p n fits =
-    record {
-      starts = starts z some g c t b ok p n fits;
-      whole = opens-whole z some g c t b ok p n fits;
-      stepwise = opens-stepwise z some g c t b ok p n fits;
-      roomy = opens-roomy z some g c t b ok p n fits;
-    }
+    → Opens z g c t b (fileCut z g c t b)
+written-opens z some g c t b ok p n fits = opens z some g c t b ok p n fits
 
 -- of what the writer's contract says it answers, and leaves of the lent bytes
 pub writing-opens : (g : Figures) (t b before after : List ℕ) (m : ℕ) → Bytes b → Bytes (g .nonce)

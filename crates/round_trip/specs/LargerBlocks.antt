@@ -46,7 +46,7 @@ pub record SinceThen (g : Figures) (t b : List ℕ) (n : ℕ) : Type 0 where
   pub fewer : 16_384 < length (ciphertext g cipher t b)
       → tags sizes (ciphertext g cipher t b) < tags before (ciphertext g cipher t b)
   -- what was written before opens to the payload
-  pub opens : Bytes b → Bytes (g .nonce) → Opens g cipher t b (shownWith before g t b n)
+  pub opens : Bytes b → Bytes (g .nonce) → Opens (before .block) g cipher t b (shownWith before g t b n)
 
 abbrev pub LargerBlocks : Type 0
 LargerBlocks = (g : Figures) (t b : List ℕ) (n m : ℕ) → writingWith before g t b n ≡ Wrote m → SinceThen g t b n

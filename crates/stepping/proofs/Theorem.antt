@@ -227,7 +227,7 @@ module _ (t f : List ℕ) (n : ℕ) (k : Keys) (p : ℕ) (e : start t f ≡ begu
       → wholeIn k f p m ≡ refused r
   by-end r c m (inl s) = each-some (λ (q : Refusal). (m : ℕ) → wholeIn k f p m ≡ refused q) _ r (agreed .refusals) s c m
   by-end r c m (inr (l, g, q)) =
-      absurd (never-spent l g q (agreed .ends (all-room k f p (rooms (length f) f (openStart k p) n) (omega (arith, l)) (taken-room _ g))))
+      absurd (never-spent l g q (agreed .ends (all-room k f p (rooms (length f) f (openStart k p) n) (length f) (omega (arith, l)) (taken-room _ g))))
 
   begun-refuse : (r : Refusal) → stepping (length f) f (openStart k p) n .outcome ≡ outcome.Refused r → Closing r
       → (m : ℕ) → wholeIn k f p m ≡ refused r

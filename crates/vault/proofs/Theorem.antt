@@ -3,11 +3,10 @@
 -- It is over the definitions that the contracts of `start`, `open` and opener's `step` equate the code with, so it
 -- holds of the code. What the record says after a list of steps is in crate opening, specs/Agreement.
 -- Assumes nothing.
-use mathlib.Core.Path.{_≡_, ap, _∙_}
+use mathlib.Core.Path.{_≡_}
 use mathlib.Core.Logic.{_≢_}
 use mathlib.Core.List.{List}
 use Prim.Native.Nat.{ℕ, _≤_, _<_}
-use native.Mathlib.Omega.{arith}
 use lib.ListN.{length, take}
 use Rattle.refusals.specs.declared.Refusal.{Refusal}
 use Rattle.refusals.specs.Limits.{fileLimit}
@@ -15,7 +14,6 @@ use Rattle.fields.specs.Fields.{bytesAt}
 use Rattle.outer_header.specs.Kdbx4Header.{header}
 use Rattle.outer_header.specs.declared.Header.{Header}
 use Rattle.outer_header.specs.declared.Reading.the-variants as read
-use Rattle.outer_header.proofs.Laws.Accepted.{header-stands}
 use Rattle.opening.specs.declared.Keys.{Keys}
 use Rattle.opening.specs.declared.Phase.the-variants.{Ended}
 use Rattle.opening.specs.Decryption.{refused}
@@ -25,7 +23,7 @@ use Rattle.opening.specs.Agreement.{blockData, handedOver, plainAfter, RunAgree
 use Rattle.opening.proofs.Theorem as behind
 use Rattle.vault.specs.Vault.{start, startRefused, begun, stateOf, openedBy, openedIn}
 use Rattle.vault.specs.Agreement.{EqualKeys, Agrees}
-use Rattle.vault.proofs.Laws.Start.{nonce-keysOf, start-begun}
+use Rattle.vault.proofs.Laws.Start.{start-begun, begun-stands}
 use Rattle.vault.proofs.Laws.Firsts.{begun-same, sameKeys-given}
 
 module _ (t f : List ℕ) where
@@ -43,11 +41,8 @@ module _ (t f : List ℕ) where
 
   begun-runs : (k : Keys) (p : ℕ) → start t f ≡ begun k p → (rooms : List ℕ) → RunAgrees k f p rooms
   begun-runs k p e rooms =
-      let s = start-begun t f k p e in
-      let n : length (k .nonce) ≡ 16 =
-      ap (λ (x : Keys). length (x .nonce)) (s .keys-are) ∙ nonce-keysOf t f (s .said) (s .reads) in
-      let q : 0 < p = omega (arith, s .place-is) in
-      behind.agrees k n f p (header-stands f (s .said) (s .reads) .file-le) q (s .inside) rooms
+      let s = begun-stands t f k p e in
+      behind.agrees k (s .nonce-is) f p (s .limit) (s .positive) (s .inside) rooms
 
 -- a second start with the same keys
 firsts-by : (t f : List ℕ) (k l : Keys) (p : ℕ) → start t f ≡ begun k p → k ≡ l → (g : List ℕ) → length g ≤ fileLimit
@@ -70,7 +65,7 @@ begun-firsts t f u g k l p q a b h i same e rooms others =
     let y = start-begun u g l q b in
     let s = sameKeys-given t f u g k l p q a b e h i same in
     let z = begun-same t f u g k l p q x y e s in
-    firsts-by t f k l p a (z .keys-are) g (header-stands g (y .said) (y .reads) .file-le) q (y .inside) rooms others
+    firsts-by t f k l p a (z .keys-are) g (begun-stands u g l q b .limit) q (y .inside) rooms others
 
 -- THE THEOREM
 pub agrees : (t f : List ℕ) → Agrees t f

@@ -5,6 +5,7 @@
 --   run-reached, run-filled             the blocks taken, and their bytes
 --   run-progress                        the bytes handed over
 --   run-refusals                        the refusals that close
+--   run-stays                           an opening that is not open stays as it is
 --   run-closed                          a run that is closed at its end had one
 --   run-moves                           each step with room goes on in the file, and none goes back
 --   withRoom-all                        where none is 17, all have room
@@ -156,7 +157,7 @@ stays-next : (k : Keys) (f : List ℕ) (q : Plain) (n : ℕ) → q .phase ≢ Op
 unfolding plainStep
 stays-next k f q n e = stays-step (q .phase) k f (q .number) (q .at) (q .text) n e
 
-run-stays : (k : Keys) (f : List ℕ) (q : Plain) (rooms : List ℕ) → q .phase ≢ Open
+pub run-stays : (k : Keys) (f : List ℕ) (q : Plain) (rooms : List ℕ) → q .phase ≢ Open
     → after (plainStep k f) q rooms .phase ≡ q .phase
 unfolding after
 run-stays k f q [] e = refl

@@ -4,16 +4,18 @@
 --   seed-is, nonce-le               an accepted header's seed has 32 bytes, its nonce at most sixteen
 --   nonce-keysOf                    the nonce of the keys has sixteen bytes
 --   Starts, start-begun             an accepted start's header, keys and place
+--   BegunStands, begun-stands       .. so its nonce has sixteen bytes, and the place is within a file within the limit
 -- Assumes nothing.
 use mathlib.Core.Path.{_≡_, refl, ap, _∙_}
 use mathlib.Core.List.{List}
-use Prim.Native.Nat.{ℕ, _+_, _-_, _≤_}
+use Prim.Native.Nat.{ℕ, _+_, _-_, _≤_, _<_}
 use native.Mathlib.Omega.{arith}
 use lib.Dec.{ltb}
 use lib.ListN.{length, take, drop, length-drop}
 use lib.Seq.{length-take-le}
 use borrow.Author.Tests.{ltb-false}
 use Rattle.words.proofs.Laws.Cases.{by-bool}
+use Rattle.refusals.specs.Limits.{fileLimit}
 use Rattle.refusals.specs.declared.Refusal.{Refusal}
 use Rattle.refusals.specs.declared.Refusal.the-variants.{CutShort, HeaderHash, HeaderTag}
 use Rattle.ciphers.proofs.Laws.{nonceLength-le}
@@ -105,3 +107,20 @@ startIn-begun t f (read.Header said) k p e h =
 pub start-begun : (t f : List ℕ) (k : Keys) (p : ℕ) → start t f ≡ begun k p → Starts t f k p
 unfolding start
 start-begun t f k p h = startIn-begun t f (header f) k p refl h
+
+-- what demand 3 asks of keys, file and place
+pub record BegunStands (f : List ℕ) (k : Keys) (p : ℕ) : Type 0 where
+  pub nonce-is : length (k .nonce) ≡ 16
+  pub limit : length f ≤ fileLimit
+  pub positive : 0 < p
+  pub inside : p ≤ length f
+
+pub begun-stands : (t f : List ℕ) (k : Keys) (p : ℕ) → start t f ≡ begun k p → BegunStands f k p
+begun-stands t f k p e =
+    let s = start-begun t f k p e in
+    record {
+      nonce-is = ap (λ (x : Keys). length (x .nonce)) (s .keys-are) ∙ nonce-keysOf t f (s .said) (s .reads);
+      limit = header-stands f (s .said) (s .reads) .file-le;
+      positive = omega (arith, s .place-is);
+      inside = s .inside;
+    }
