@@ -4,7 +4,7 @@
 --   length-fileCut                a file in blocks of z bytes
 --   cut-le, cut-lt, cut-same      in larger blocks it is no longer, it is shorter, it is the same
 --   still-taken                   whoever keeps to sizes no larger is taken with larger ones
---   larger-blocks                 the sentence
+--   larger-blocks                 the sentence; its two files are each other's cuttings (Item 13)
 -- Assumes nothing.
 use mathlib.Core.Path.{_≡_, sym, ap, _∙_}
 use mathlib.Core.List.{List, _++_}
@@ -12,7 +12,7 @@ use Prim.Native.Nat.{ℕ, _+_, _≤_, _<_}
 use native.Mathlib.Omega.{arith}
 use lib.ListN.{length, length-append}
 use borrow.Author.Tests.{le-leb, le-ltb}
-use Rattle.refusals.specs.Limits.{writtenBlock}
+use Rattle.refusals.specs.Limits.{fileLimit, writtenBlock}
 use Rattle.refusals.proofs.Laws.Limits.{block-positive, payload-raised, file-raised, block-raised}
 use Rattle.refusals.specs.declared.Written.the-variants.{Wrote}
 use Rattle.ciphers.specs.declared.Cipher.{Cipher}
@@ -25,6 +25,7 @@ use Rattle.round_trip.specs.Opens.{fileKeys}
 use Rattle.round_trip.specs.LargerBlocks.{before, ciphertext, LargerBlocks}
 use Rattle.round_trip.proofs.Laws.Success.{success, shown-wrote}
 use Rattle.round_trip.proofs.Theorem.{written-opens}
+use Rattle.round_trip.proofs.Recut.{written-cutting}
 
 module _ (g : Figures) (c : Cipher) (t b : List ℕ) where
   abbrev text : List ℕ
@@ -33,7 +34,7 @@ module _ (g : Figures) (c : Cipher) (t b : List ℕ) where
   abbrev front : List ℕ
   front = summed (fileKeys g c t .base) (headerOf g c)
 
-  length-fileCut : (z : ℕ) → 0 < z → length (fileCut z g c t b) ≡ length front + cutLength z (length text)
+  pub length-fileCut : (z : ℕ) → 0 < z → length (fileCut z g c t b) ≡ length front + cutLength z (length text)
   unfolding fileCut fileWith
   length-fileCut z some =
       length-append front (blocksFrom (fileKeys g c t .base) 0 (cut z text))
@@ -83,6 +84,9 @@ larger-blocks g t b n m h =
     let some : 0 < 16_384 = omega arith in
     let le : 16_384 ≤ writtenBlock = omega (arith, block-raised) in
     let text = ciphertext g c t b in
+    let fits : length (fileCut 16_384 g c t b) ≤ fileLimit = omega (arith, w .file-le, file-raised) in
+    let fits-now : length (fileCut writtenBlock g c t b) ≤ fileLimit =
+    omega (arith, fits, cut-le g c t b 16_384 writtenBlock some le) in
     let y =
     still-taken g c t b before sizes payload-raised file-raised some le (w .accepted) n (w .payload-le) (w .file-le)
     (w .room) in
@@ -106,5 +110,7 @@ larger-blocks g t b n m h =
             count-lt 16_384 writtenBlock (length text) some block-raised (omega (arith, o)),
           );
       opens = λ p q.
-          rw (w .bytes) (written-opens 16_384 some g c t b (w .accepted) p q (omega (arith, w .file-le, file-raised)));
+          rw (w .bytes) (written-opens 16_384 some g c t b (w .accepted) p q fits);
+      cut-anew = rw (now, w .bytes) (written-cutting 16_384 some g c t b fits writtenBlock block-positive fits-now);
+      cut-back = rw (now, w .bytes) (written-cutting writtenBlock block-positive g c t b fits-now 16_384 some fits);
     }

@@ -76,7 +76,7 @@ use Rattle.round_trip.proofs.Laws.Started.{length-nonce}
 use Rattle.round_trip.proofs.Laws.Success.{shown-wrote}
 use Rattle.round_trip.proofs.Laws.Begun.{kdf-begins, begins-refuses, begins-accepts}
 use Rattle.round_trip.proofs.Laws.Fields.{header-field}
-use Rattle.round_trip.proofs.Laws.Cut.{has-5-27}
+use Rattle.round_trip.proofs.In5And27.{has-5-27}
 use Rattle.round_trip.proofs.FewRounds.{few-rounds, checked-many}
 use Rattle.round_trip.proofs.Accepts.{checked-writes}
 

@@ -3,6 +3,7 @@
 --   "From inputs that the writer took before, a ciphertext over 16,384 bytes now gives other bytes and fewer tags;
 --    any other gives the same bytes"                                                    SinceThen
 --   "Stored vaults stay valid and open as before": what the writer wrote before         SinceThen.opens
+--   Item 13, "Same vault, other cutting": at the one block size and at the other        SinceThen.cut-anew, cut-back
 -- Before are the numbers of document 01, "Numbers of the terminal". g are the figures, t is T, b the payload, and n
 -- bytes are lent.
 -- Not here: that any cutting opens (proofs/Theorem, written-opens).
@@ -16,8 +17,9 @@ use Rattle.refusals.specs.declared.Written.the-variants.{Wrote}
 use Rattle.ciphers.specs.declared.Cipher.{Cipher}
 use Rattle.header_writer.specs.declared.Checked.the-variants.{As}
 use Rattle.cutting.specs.Cutting.{cut}
+use Rattle.recutting.specs.Recut.{IsCutting}
 use Rattle.writer.specs.Written.{Figures, Sizes, sizes, encryptionBy, checkedOf, fileCut, writingWith, shownWith, writing, shown}
-use Rattle.round_trip.specs.Opens.{fileKeys, Opens}
+use Rattle.round_trip.specs.Opens.{fileKeys, firstBlock, Opens}
 
 abbrev pub before : Sizes
 before = record { payload = 4_194_304; file = 4_194_304; block = 16_384 }
@@ -47,6 +49,9 @@ pub record SinceThen (g : Figures) (t b : List ℕ) (n : ℕ) : Type 0 where
       → tags sizes (ciphertext g cipher t b) < tags before (ciphertext g cipher t b)
   -- what was written before opens to the payload
   pub opens : Bytes b → Bytes (g .nonce) → Opens (before .block) g cipher t b (shownWith before g t b n)
+  -- .. and each file is the other in another cutting (Item 13)
+  pub cut-anew : IsCutting (fileKeys g cipher t) (shownWith before g t b n) (firstBlock g cipher) (shown g t b n)
+  pub cut-back : IsCutting (fileKeys g cipher t) (shown g t b n) (firstBlock g cipher) (shownWith before g t b n)
 
 abbrev pub LargerBlocks : Type 0
 LargerBlocks = (g : Figures) (t b : List ℕ) (n m : ℕ) → writingWith before g t b n ≡ Wrote m → SinceThen g t b n

@@ -46,7 +46,8 @@ use Rattle.opening.specs.Decryption.{decryptionBy}
 use Rattle.opening.specs.Agreement.{stepAnswers, handedOver, plainAfter}
 use Rattle.opening.specs.Worked.{Blocks5And27, ClosingBehind, ciphertext, writtens}
 use Rattle.vault.specs.Vault.{start, begun}
-use Rattle.writer.specs.Written.{Figures, headerOf, encryptionBy, writing, shown}
+use Rattle.recutting.specs.Recut.{recut}
+use Rattle.writer.specs.Written.{Figures, headerOf, encryptionBy, fileBytes, writing, shown}
 use Rattle.writer.specs.Stretches.{summed}
 use Rattle.round_trip.specs.Opens.{fileKeys, firstBlock}
 use Rattle.round_trip.specs.FewRounds.{Begins, roundsAt, Asks}
@@ -94,12 +95,9 @@ inTwoBlocks c g t b =
     ++ (blockBytes (tagBaseOf c g t) 0 (take writtenBlock (textOf c g t b))
     ++ (blockBytes (tagBaseOf c g t) 1 (drop writtenBlock (textOf c g t b)) ++ blockBytes (tagBaseOf c g t) 2 []))
 
--- an AES file, cut behind the fifth byte of its ciphertext
+-- an AES file, cut anew into blocks of 5 and 27 bytes (document 02, Item 13)
 abbrev pub in5And27 : Figures → List ℕ → List ℕ → List ℕ
-in5And27 g t b =
-    frontOf Aes256 g t
-    ++ (blockBytes (tagBaseOf Aes256 g t) 0 (take 5 (textOf Aes256 g t b))
-    ++ (blockBytes (tagBaseOf Aes256 g t) 1 (drop 5 (textOf Aes256 g t b)) ++ blockBytes (tagBaseOf Aes256 g t) 2 []))
+in5And27 g t b = recut (fileKeys g Aes256 t) (fileBytes g Aes256 t b) (firstBlock g Aes256) (5 ∷ 27 ∷ [])
 
 -- such a file starts, and has the blocks of which the table speaks
 pub record Has5And27 (g : Figures) (t b : List ℕ) : Type 0 where
