@@ -1,9 +1,9 @@
-"""The driver's operations: from a request to its answer, both as JSON objects.
+"""The driver's operations, and `recut`, which is the model's alone: from a request to its answer, both as JSON objects.
 
 Bytes are lower-case hexadecimal. A refusal answers its number, a reader's its place too, and nothing else.
 """
 
-from . import dictionary, header as outer, inner, keys, stream, vault
+from . import dictionary, header as outer, inner, keys, recut, stream, vault
 from .limits import MESSAGE_LIMIT, Refusal, within
 from .primitives import hmac_sha256, sha256, sha512
 
@@ -138,6 +138,15 @@ def answer_steps(request):
     return {"steps": made}
 
 
+def answer_recut(request):
+    """What both openers answer to the file cut anew; `cut` is false where the sizes do not add up to its ciphertext."""
+    made = recut.recut(octets(request, "data"), octets(request, "T"), request["sizes"])
+    if made is None:
+        return {"cut": False}
+    asked = {**request, "data": made.hex()}
+    return {"cut": True, **{op: answer({**asked, "op": op}) for op in ("open", "steps")}}
+
+
 def cipher_identifier(text):
     """ "aes", "chacha", or 32 hex digits of an identifier"."""
     return {"aes": outer.AES, "chacha": outer.CHACHA20}.get(text) or bytes.fromhex(text)
@@ -215,6 +224,7 @@ OPERATIONS = {
     "tag": answer_tag,
     "open": answer_open,
     "steps": answer_steps,
+    "recut": answer_recut,
     "write": answer_write,
     "inner": answer_inner,
     "attachment": answer_attachment,

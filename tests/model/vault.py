@@ -83,17 +83,22 @@ def room(lent, due):
     require(lent is None or lent >= due, LENT_TOO_SHORT)
 
 
-def open_whole(data, t, lent=None):
-    """ "The whole opener makes the header checks, then the same, with 17 once and last." """
-    header, vault_keys, at = start(data, t)
+def data_blocks(data, at, base):
+    """The data of each block from there on, up to the closing one, and the place behind that one."""
     pieces = []
     number = 0
     while True:
-        content, at = block(data, at, number, vault_keys.tag_base)
+        content, at = block(data, at, number, base)
         if not content:
-            break
+            return pieces, at
         pieces.append(content)
         number += 1
+
+
+def open_whole(data, t, lent=None):
+    """ "The whole opener makes the header checks, then the same, with 17 once and last." """
+    header, vault_keys, at = start(data, t)
+    pieces, at = data_blocks(data, at, vault_keys.tag_base)
     plain = closing(data, at, header, vault_keys, b"".join(pieces))
     room(lent, len(plain))
     return plain
