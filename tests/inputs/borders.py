@@ -1,6 +1,6 @@
 """The few large requests: at each limit of document 01 and of Items 1, 6 and 7, and one past it; written payloads
-around a written block, and files in blocks of other sizes; places of Item 8 far from the front. With them the small
-ones at the lengths of Item 2 and the positions of Item 1.
+around a written block, and files in blocks of other sizes or cut anew; places of Item 8 far from the front. With them
+the small ones at the lengths of Item 2 and the positions of Item 1.
 
 A large one is some 32 MB of text, so each is made when it is asked.
 """
@@ -11,6 +11,7 @@ from model.limits import (
     FILE_LIMIT, KEY_FILE_LIMIT, MESSAGE_LIMIT, PASSWORD_LIMIT, PAYLOAD_LIMIT, PROGRAM_LIMIT, STREAM_LIMIT,
     WRITTEN_BLOCK,
 )
+from model.recut import recut
 
 from .shapes import BOOL, Block, Dictionary, Field, Item, aes_kdf_items, numbered, sound_inner, sound_vault
 
@@ -194,6 +195,20 @@ def cut_vault(op, cipher, limit, block):
         made = plain_vault(rng, cipher)
         cut_into(rng, made, longest_payload(cipher, len(made.header.octets()), limit, block), lambda text: block)
         return asked_file(op, made, lents=[block + 15] * len(made.blocks))
+
+    return make
+
+
+def recut_vault(op, cipher, length, blocks):
+    """A file of one data block, cut anew into a file of exactly that length: so many blocks of 1,000 bytes, and one of
+    what is left."""
+
+    def make(rng):
+        made, _ = large_vault(rng, cipher, length, blocks + 1)
+        text = b"".join(block.data for block in made.blocks)
+        made.blocks = [Block(text), Block(b"")]
+        data = recut(made.octets(), made.t, [1000] * blocks + [len(text) - 1000 * blocks])
+        return {"op": op, "data": data.hex(), "T": made.t.hex(), "lents": [FILE_LIMIT] * (blocks + 2)}
 
     return make
 
@@ -470,6 +485,13 @@ CUTS = tuple(
     cut_vault("steps", "chacha", FILE_LIMIT, FORMER_BLOCK),
 )
 
+# The file before the cutting has fewer tags, and is within the limit.
+RECUT = (
+    recut_vault("open", "chacha", FILE_LIMIT, 16_000),
+    recut_vault("open", "aes", FILE_LIMIT + 1, 16_000),
+    recut_vault("steps", "aes", FILE_LIMIT, 40),
+)
+
 WRITTEN = tuple(write_of(cipher, payload) for payload in AROUND_BLOCKS for cipher in ("aes", "chacha")) + (
     write_of("aes", largest_payload("aes")),
     write_of("aes", largest_payload("aes") + 1),
@@ -670,6 +692,6 @@ STREAMS = (
 )
 
 BORDERS = (
-    *HEADERS, *FAR, *OPENED, *STEPPED, *CUTS, *WRITTEN, *TIES, *CREDENTIALS, *MESSAGES, *TRANSFORMED, *INNER,
+    *HEADERS, *FAR, *OPENED, *STEPPED, *CUTS, *RECUT, *WRITTEN, *TIES, *CREDENTIALS, *MESSAGES, *TRANSFORMED, *INNER,
     *DICTIONARIES, *STREAMS,
 )

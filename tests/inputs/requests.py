@@ -11,7 +11,7 @@ from model.header import AES, CHACHA20, NONCE_LENGTH
 from model.keys import argon2_words
 from model.limits import FILE_LIMIT, STREAM_LIMIT, WRITTEN_BLOCK, Refusal
 
-from . import edits
+from . import edits, recuts
 from .borders import BORDERS, seeds
 from .few_rounds import FEW_ROUNDS
 from .places import PLACES
@@ -402,6 +402,22 @@ def request_steps(rng):
     return made
 
 
+def request_recut_open(rng):
+    """Item 13: a file that was cut anew."""
+    cutting = recuts.some_cutting(rng)
+    made = {"data": cutting.recut().hex(), "T": cutting.t.hex()}
+    if rng.random() < 0.6:
+        made["lent"] = around(rng, cutting.payload)
+    return made
+
+
+def request_recut_steps(rng):
+    """All steps over such a file, some with too little room."""
+    cutting = recuts.some_cutting(rng)
+    lents = [lent for lent, _ in recuts.lents_for(rng, cutting)]
+    return {"data": cutting.recut().hex(), "T": cutting.t.hex(), "lents": lents}
+
+
 def sound_kdf(rng):
     """A KDF that the writer takes."""
     if rng.random() < 0.4:
@@ -657,7 +673,14 @@ SHARES = {
     "stream": (40, request_stream),
     "streams": (30, request_streams),
 }
-TABLE = [(op, make) for op, (share, make) in SHARES.items() for _ in range(share)]
+# Beside the thousand, files that were cut anew.
+RECUT_SHARES = {"open": (8, request_recut_open), "steps": (8, request_recut_steps)}
+TABLE = [
+    (op, make)
+    for shares in (SHARES, RECUT_SHARES)
+    for op, (share, make) in shares.items()
+    for _ in range(share)
+]
 
 
 FIXED = BORDERS + FEW_ROUNDS + PLACES  # asked in every run
