@@ -1,5 +1,6 @@
 """The model by itself: files of other programs, the worked numbers and the worked listing of document 01, those of
-document 02's Items 3, 6, 7 and 8, and the published numbers of Salsa20, which the model makes itself.
+document 02's Items 3, 6, 7 and 8, Item 13's cuttings, and the published numbers of Salsa20, which the model makes
+itself.
 
 This is what `tests/differential --self` runs. The fixtures' manifest was made by their own programs.
 """
@@ -7,9 +8,11 @@ This is what `tests/differential --self` runs. The fixtures' manifest was made b
 import json
 import os
 import struct
+from itertools import cycle
 from random import Random
 
 from inputs.places import PLACES
+from inputs.recuts import adding_up
 from inputs.requests import SHARES, some_vault
 from inputs.shapes import Block, sound_vault
 from model import header as outer, inner, keys, salsa20, stream, vault
@@ -17,6 +20,7 @@ from model.answers import READERS, answer
 from model.dictionary import AES_KDF, ARGON2D, ARGON2ID, SIZE_OF_TYPE, kdf_figures
 from model.limits import STREAM_LIMIT, Refusal
 from model.primitives import cbc_encrypt, sha256
+from model.recut import recut
 
 # Item 3: "The listing case of document 01 then uses R = 6,000, whose value bytes are 7017000000000000".
 LISTING = """\
@@ -162,9 +166,19 @@ def check_opened(tally, folder, entry, data):
     tally.same(label + " payload", sha256(plain).hex(), entry["payload_sha256"])
     tally.same(label + " by steps", stepped(data, t) == plain, True)
     tally.same(label + " another T", number_of(vault.open_whole, data, bytes(32)), 13)
+    check_cut_back(tally, label, data, t, entry["blocks"][:-1])
     if header.kdf.get("R") == 6_000:
         check_round_less(tally, label, data, header.spans[outer.KDF], t)
     check_inner(tally, label, entry, plain)
+
+
+def check_cut_back(tally, label, data, t, sizes):
+    """Item 13 on a file in blocks of these sizes: cut at them it is the same, and so it is when it was cut at others
+    before."""
+    other = recut(data, t, adding_up(cycle([1000]), sum(sizes)))
+    tally.same(label + " cut at its own sizes", recut(data, t, sizes) == data, True)
+    tally.same(label + " cut at 1,000, and back", recut(other, t, sizes) == data, True)
+    tally.same(label + " cut at 1,000", outcome(vault.open_whole, other, t) == vault.open_whole(data, t), True)
 
 
 def check_round_less(tally, label, data, kdf_span, t):
@@ -278,6 +292,28 @@ def check_former_files(tally):
             tally.same(label + " tags", fewer, len(text) > 16_384)
             tally.same(label + " whole", vault.open_whole(former, bytes(32)) == bytes(payload_length), True)
             tally.same(label + " by steps", stepped(former, bytes(32)) == bytes(payload_length), True)
+
+
+def check_recut(tally):
+    """Item 13 on written files, by length and by steps, and lists of sizes that are no cutting."""
+    for cipher, header, payload_length, sizes in (
+        (outer.AES, 207, 31, (5, 27)),
+        (outer.AES, 207, 16, (5, 27)),
+        (outer.AES, 207, 0, 16 * (1,)),
+        (outer.AES, 207, 2_500, (1000, 1000, 512)),
+        (outer.CHACHA20, 203, 2_500, (1000, 1000, 500)),
+        (outer.CHACHA20, 203, 3, (1, 1, 1)),
+        (outer.CHACHA20, 203, 0, ()),
+    ):
+        label = "%d bytes cut at %s" % (payload_length, sizes)
+        data, t = written(cipher, payload_length), bytes(32)
+        made = recut(data, t, sizes)
+        tally.same(label, len(made), header + 64 + sum(sizes) + 36 * (len(sizes) + 1))
+        tally.same(label + ", sizes", block_sizes(made, header + 64), [*sizes, 0])
+        tally.same(label + ", whole", outcome(vault.open_whole, made, t), bytes(payload_length))
+        tally.same(label + ", by steps", stepped(made, t), bytes(payload_length))
+        for other in ((*sizes, 0), (*sizes, 1), (*sizes, 1, -1), (0, *sizes)):
+            tally.same(label + ", not at %s" % (other,), recut(data, t, other), None)
 
 
 def check_handed_over(tally):
@@ -758,6 +794,7 @@ def check_model(fixtures):
     check_lengths(tally)
     check_limits(tally)
     check_former_files(tally)
+    check_recut(tally)
     check_handed_over(tally)
     check_refusals(tally)
     check_rounds(tally)
