@@ -4,7 +4,8 @@ This is what `tests/differential --mutants` runs: an edited copy of tests/model 
 that the inputs would find such a fault in the library too. The edits are in mutants.edits, and in mutants-large.edits
 those that only the large inputs tell apart: `# fault`, then `file:`, `old:` (text that occurs once) and `new:`. A line
 `asked:` behind the file names the operations whose inputs have to tell this one apart, and a line `each:` in its place
-those of which each has to by itself.
+those of which each has to by itself. Those in mutants-recut.edits are faults of a cutting (Item 13), not of an opener:
+they are asked the model's own operation `recut`, and have to be told apart by what the openers say of the file.
 """
 
 import os
@@ -12,8 +13,10 @@ import re
 import shutil
 import sys
 import tempfile
+from random import Random
 
 from inputs.borders import BORDERS
+from inputs.recuts import request_recut
 from inputs.requests import FIXED, request
 from model.answers import answer
 
@@ -21,6 +24,7 @@ HERE = os.path.dirname(os.path.abspath(__file__))
 CHUNK = 2000
 CHUNKS = 8  # a fault that this many chunks do not show is not told apart
 BORDER_CHUNK = 4  # they are large, so no more are held at once
+RECUT_CHUNK = 250
 EDIT = re.compile(
     r"^# ([^\n]*)\nfile: ([^\n]*)\n(?:(asked|each): ([^\n]*)\n)?old:\n(.*)\nnew:\n(.*)\Z", re.DOTALL
 )
@@ -113,10 +117,23 @@ def small_inputs(seed):
     yield from chunks(seed, first + CHUNK, first + CHUNK * CHUNKS, CHUNK)
 
 
+def recut_inputs(seed):
+    """Files to be cut anew, in chunks."""
+    for at in range(0, RECUT_CHUNK * CHUNKS, RECUT_CHUNK):
+        requests = [(index, request_recut(Random(f"{seed}:recut:{index}"))) for index in range(at, at + RECUT_CHUNK)]
+        yield [(index, one, answer(one)) for index, one in requests]
+
+
 def try_mutants(seed, wanted, drive, answers_of):
     """Try every edit with this text in the name of its fault; True where all are told apart."""
-    told, missed = try_edits("mutants.edits", wanted, small_inputs(seed), drive, answers_of)
-    large = chunks(seed, 0, len(BORDERS), BORDER_CHUNK)
-    large_told, large_missed = try_edits("mutants-large.edits", wanted, large, drive, answers_of)
-    print("%d told apart, %d not" % (told + large_told, missed + large_missed))
-    return missed + large_missed == 0
+    tried = [
+        try_edits(name, wanted, inputs, drive, answers_of)
+        for name, inputs in (
+            ("mutants.edits", small_inputs(seed)),
+            ("mutants-large.edits", chunks(seed, 0, len(BORDERS), BORDER_CHUNK)),
+            ("mutants-recut.edits", recut_inputs(seed)),
+        )
+    ]
+    told, missed = (sum(counts) for counts in zip(*tried))
+    print("%d told apart, %d not" % (told, missed))
+    return missed == 0
