@@ -4,8 +4,8 @@
 FIXTURES is the folder of vaults that other programs wrote, with its manifest.json and keys/: who does not have it
 cannot run this script, and needs only tests/cases/requests and tests/cases/answers, which it writes, one JSON object a
 line. No answer comes from the library: cases_headers.py, cases_keys.py, cases_vaults.py, cases_inner.py,
-cases_streams.py, cases_argon2.py and cases_limits.py say where theirs come from. A request has its case's name in
-"case", at which the driver does not look.
+cases_streams.py, cases_argon2.py, cases_limits.py and cases_recut.py say where theirs come from. A request has its
+case's name in "case", at which the driver does not look.
 """
 import json
 import pathlib
@@ -16,6 +16,7 @@ import cases_headers
 import cases_inner
 import cases_keys
 import cases_limits
+import cases_recut
 import cases_streams
 import cases_vaults
 from case_list import Cases
@@ -48,6 +49,7 @@ def main(folder):
     cases_argon2.add_all(cases, by_kdf[False])
     unanswered(cases)
     cases_limits.add_all(cases)
+    cases_recut.add_all(cases, by_kdf[True])
     tests = pathlib.Path(__file__).parent.parent / "tests" / "cases"
     tests.mkdir(exist_ok=True)
     (tests / "requests").write_text("".join(f"{line}\n" for line in cases.requests))

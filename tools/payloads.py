@@ -7,12 +7,18 @@ from cryptography.hazmat.primitives.ciphers import Cipher, algorithms, modes
 from header_model import AES
 
 
-def payload_of(vault):
-    """The payload of a vault, decrypted by its transformed key."""
+def ciphertext_of(vault):
+    """The ciphertext of a vault: the data of its blocks, joined."""
     data, at = b"", len(vault.header) + 64
     while size := int.from_bytes(vault.file[at + 32 : at + 36], "little"):
         data += vault.file[at + 36 : at + 36 + size]
         at += 36 + size
+    return data
+
+
+def payload_of(vault):
+    """The payload of a vault, decrypted by its transformed key."""
+    data = ciphertext_of(vault)
     key, nonce = hashlib.sha256(vault.master_seed + vault.t).digest(), vault.fields[7]
     if vault.fields[2] == AES:
         decryptor = Cipher(algorithms.AES(key), modes.CBC(nonce)).decryptor()
