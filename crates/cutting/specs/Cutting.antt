@@ -4,10 +4,12 @@
 --   "all data blocks are full except perhaps the last"; "cuts blocks at
 --    1,000 bytes"                                                           cut, sizesAt
 --   "tagged by the published rule, closed"; "A block of size 0 closes"      blocksFrom
---   joined, NonEmpty       pieces one behind the other; pieces of which none is empty
---   InBlocks               a file whose bytes from a place on are such blocks
---   blockCount, cutLength  how many data blocks there are at a size, and how long all blocks are
--- `base` is the tag base, ns are sizes, t is the ciphertext, ds are pieces of it.
+--   lengths, NonEmpty                                                       the sizes of pieces; none of them is empty
+--   InBlocks                                                                a file with such blocks from a place on
+--   blockCount, cutLength                                                   how many data blocks there are at a size, and
+--                                                                           how long all blocks are
+-- `base` is the tag base, ns are sizes, t is the ciphertext, ds are pieces of it; `joined` (crate sha2, Feeds) has them
+-- one behind the other.
 -- Not here: a block's bytes and its checks (crate block_stream), the file (crates writer and recutting).
 -- Assumes nothing.
 use mathlib.Core.Path.{_≡_}
@@ -48,11 +50,7 @@ unfoldable pub blocksFrom : List ℕ → ℕ → List (List ℕ) → List ℕ
 blocksFrom base i [] = blockBytes base i []
 blocksFrom base i (d ∷ ds) = blockBytes base i d ++ blocksFrom base (suc i) ds
 
--- the pieces one behind the other, and their sizes
-unfoldable pub joined : List (List ℕ) → List ℕ
-joined [] = []
-joined (d ∷ ds) = d ++ joined ds
-
+-- the sizes of pieces
 unfoldable pub lengths : List (List ℕ) → List ℕ
 lengths [] = []
 lengths (d ∷ ds) = length d ∷ lengths ds

@@ -1,5 +1,6 @@
--- The other way round, for demand 2 and Item 13: where the whole opener opens a file, so does every list with as many
--- steps with room as the file has blocks, the closing one included.
+-- The other way round, for demand 2 and Item 13: where the whole opener opens a file in blocks, so does every list with as
+-- many steps with room as the file has blocks, the closing one included. Whatever it opens is in blocks (Laws.Cutting,
+-- opened-blocks).
 --
 -- In order: roomed-opened, wholeIn-same (what is opened does not depend on the room), opened-steps (the theorem),
 -- opened-stepwise (the same, where each step is lent fifteen bytes more than the next block's size).

@@ -4,6 +4,7 @@
 -- In order:
 --   the whole opener with n bytes lent
 --   each field of RunAgrees
+--   finished  a run that is not open has taken the closing block, or ended in a refusal that closed it
 --   agrees    the theorem
 --   all-room  a list of which no step is refused with 17
 -- A first block stands behind a header, so that its place is not 0; an empty file would be opened by no step at all.

@@ -6,8 +6,9 @@
 --   more-steps               .. in as many steps, or more
 --   begun-blocks             .. one that has its front, and then blocks of pieces
 --   Begins, accepted-begins  what the success of either opener says
+--   accepted-whole           .. with the keys and the place of the start named
 -- Assumes nothing.
-use mathlib.Core.Path.{_≡_, refl, sym, _∙_}
+use mathlib.Core.Path.{_≡_, refl, sym, ap₂, _∙_}
 use mathlib.Core.List.{List, _++_}
 use Prim.Native.Nat.{ℕ, _+_, _≤_}
 use native.Mathlib.Omega.{arith}
@@ -15,7 +16,8 @@ use lib.ListN.{length}
 use lib.Seq.{drop-at}
 use borrow.Author.Tests.{le-ltb}
 use Rattle.refusals.specs.Limits.{fileLimit}
-use Rattle.cutting.specs.Cutting.{blocksFrom, joined, NonEmpty, InBlocks}
+use Rattle.sha2.specs.Feeds.{joined}
+use Rattle.cutting.specs.Cutting.{blocksFrom, NonEmpty, InBlocks}
 use Rattle.cutting.proofs.Laws.Blocks.{blocks-stand}
 use Rattle.opening.specs.declared.Keys.{Keys}
 use Rattle.opening.specs.declared.Phase.the-variants.{Ended}
@@ -104,3 +106,13 @@ accepted-begins t f b (by-steps k p rooms e s) =
     let z : plainAfter k f p rooms .phase ≡ Ended = sym (r .phase-is) ∙ s .ended in
     let h = rw (s .bytes-are) at (r .whole-gives z) in
     openedIn-begins t f (length b) b (agrees t f .whole-is k p e (length b) ∙ h (length b) (omega arith))
+
+begun-alike : (k l : Keys) (p q : ℕ) → begun k p ≡ begun l q → (k ≡ l) × (p ≡ q)
+begun-alike k l p q e = (cc, cc)
+
+pub accepted-whole : (t f b : List ℕ) → Accepted t f b → (k : Keys) (p : ℕ) → start t f ≡ begun k p
+    → whole k f p ≡ opened b
+accepted-whole t f b a k p e =
+    let s = accepted-begins t f b a in
+    let x = begun-alike (s .keys) k (s .place) p (sym (s .begins) ∙ e) in
+    ap₂ (λ (y : Keys) (q : ℕ). whole y f q) (sym (x .0)) (sym (x .1)) ∙ s .payload-is

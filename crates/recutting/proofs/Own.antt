@@ -1,9 +1,10 @@
--- An accepted file is itself such a cutting, at its own sizes: so files with one front and one ciphertext are each
--- other's cuttings, and Item 13 speaks of every accepted file.
+-- An accepted file is itself such a cutting, at its own sizes: so accepted files with one front and one ciphertext are
+-- each other's cuttings, and no accepted file is left out of what a cutting can give.
 --
 -- In order:
 --   block-bytes                a block that passes has the bytes that a block is written with
 --   stand-blocks               so blocks that stand in a file are the blocks of their data
+--   stand-nonempty             .. none of which is empty
 --   own-cutting                an accepted file is a cutting of its own ciphertext
 --   other-file                 .. and of any other file's that has its front and its ciphertext
 -- A file is bytes here, as every file is that the code is lent.
@@ -18,18 +19,18 @@ use Rattle.words.specs.Endian.{Bytes, leBytes}
 use Rattle.words.proofs.Laws.Endian.{leBytes-le}
 use Rattle.slices.proofs.Laws.Same.{same-true}
 use Rattle.block_stream.specs.Blocks.{blockTag, blockBytes, holds, dataAt}
-use Rattle.cutting.specs.Cutting.{pieces, blocksFrom, joined, lengths, NonEmpty, InBlocks}
+use Rattle.sha2.specs.Feeds.{joined}
+use Rattle.cutting.specs.Cutting.{pieces, blocksFrom, lengths, NonEmpty, InBlocks}
 use Rattle.cutting.proofs.Laws.Pieces.{pieces-lengths, total-lengths, lengths-positive}
 use Rattle.opening.specs.declared.Keys.{Keys}
-use Rattle.opening.specs.Decryption.{opened}
-use Rattle.opening.specs.Whole.{whole}
 use Rattle.opening.proofs.Laws.Judge.{Passed, length-dataAt, judge-data, judge-closing, judge-some}
 use Rattle.opening.proofs.Laws.Cutting.{opened-blocks}
 use Rattle.open_whole.specs.Ciphertext.{text}
 use Rattle.vault.specs.Vault.{start, begun}
 use Rattle.vault.proofs.Laws.Start.{begun-stands}
-use Rattle.recutting.specs.Recut.{recut, IsCutting}
+use Rattle.recutting.specs.Recut.{Accepted, recut, IsCutting}
 use Rattle.recutting.proofs.Laws.Text.{text-blocks}
+use Rattle.recutting.proofs.Opens.{accepted-whole}
 use Rattle.recutting.proofs.Theorem.{recut-same}
 
 module _ (base f : List ℕ) (byte : Bytes f) (i p n : ℕ) (h : Passed base f i p n) where
@@ -83,40 +84,40 @@ stand-nonempty base f [] i p h = tt
 stand-nonempty base f (d ∷ ds) i p h =
     (omega (arith, judge-some base f i p (length d) (h .0)), stand-nonempty base f ds (suc i) (p + 36 + length d) (h .1 .1))
 
-module _ (t g : List ℕ) (byte : Bytes g) (k : Keys) (p : ℕ) (e : start t g ≡ begun k p) (b : List ℕ)
-    (o : whole k g p ≡ opened b) where
-  pub own-cutting : IsCutting k g p g
-  unfolding recut
-  own-cutting =
-      let h = opened-blocks k g b p o in
-      let ds = h .data-are in
-      let x : text g p ≡ joined ds = text-blocks (k .base) g ds 0 p (h .stand) in
-      let s : recut k g p (lengths ds) ≡ g =
-      ap (λ (ms : List (List ℕ)). take p g ++ blocksFrom (k .base) 0 ms)
-      (ap (pieces (lengths ds)) x ∙ pieces-lengths ds)
-      ∙ ap (λ (r : List ℕ). take p g ++ r) (sym (stand-blocks (k .base) g byte ds 0 p (h .stand)))
-      ∙ take-append-drop p g in
-      record {
-        sizes = lengths ds;
-        cuts = record {
-          positive = lengths-positive ds (stand-nonempty (k .base) g ds 0 p (h .stand));
-          adds-up = total-lengths ds ∙ ap length (sym x);
-          fits = rw s (begun-stands t g k p e .limit);
-        };
-        same-file = s;
-      }
+module _ (t g b : List ℕ) (accepted : Accepted t g b) (byte : Bytes g) (k : Keys) (p : ℕ) (e : start t g ≡ begun k p)
+  where
+    pub own-cutting : IsCutting k g p g
+    unfolding recut
+    own-cutting =
+        let h = opened-blocks k g b p (accepted-whole t g b accepted k p e) in
+        let ds = h .data-are in
+        let x : text g p ≡ joined ds = text-blocks (k .base) g ds 0 p (h .stand) in
+        let y : pieces (lengths ds) (text g p) ≡ ds = ap (pieces (lengths ds)) x ∙ pieces-lengths ds in
+        let s : recut k g p (lengths ds) ≡ g =
+        ap (λ (ms : List (List ℕ)). take p g ++ blocksFrom (k .base) 0 ms) y
+        ∙ ap (λ (r : List ℕ). take p g ++ r) (sym (stand-blocks (k .base) g byte ds 0 p (h .stand)))
+        ∙ take-append-drop p g in
+        record {
+          sizes = lengths ds;
+          cuts = record {
+            positive = lengths-positive ds (stand-nonempty (k .base) g ds 0 p (h .stand));
+            adds-up = total-lengths ds ∙ ap length (sym x);
+            fits = rw s (begun-stands t g k p e .limit);
+          };
+          same-file = s;
+        }
 
-  -- so g is a cutting of any file f that has its front and its ciphertext
-  pub other-file : (f : List ℕ) → take p f ≡ take p g → text f p ≡ text g p → IsCutting k f p g
-  other-file f front same =
-      let w = own-cutting in
-      let s : recut k f p (w .sizes) ≡ g = recut-same k f g p front same (w .sizes) ∙ w .same-file in
-      record {
-        sizes = w .sizes;
-        cuts = record {
-          positive = w .cuts .positive;
-          adds-up = w .cuts .adds-up ∙ ap length (sym same);
-          fits = rw s (begun-stands t g k p e .limit);
-        };
-        same-file = s;
-      }
+    -- so g is a cutting of any file f that has its front and its ciphertext
+    pub other-file : (f : List ℕ) → take p f ≡ take p g → text f p ≡ text g p → IsCutting k f p g
+    other-file f front same =
+        let w = own-cutting in
+        let s : recut k f p (w .sizes) ≡ g = recut-same k f g p front same (w .sizes) ∙ w .same-file in
+        record {
+          sizes = w .sizes;
+          cuts = record {
+            positive = w .cuts .positive;
+            adds-up = w .cuts .adds-up ∙ ap length (sym same);
+            fits = rw s (begun-stands t g k p e .limit);
+          };
+          same-file = s;
+        }

@@ -22,7 +22,7 @@ use Rattle.recutting.specs.Opens.{BothOpen}
 use Rattle.recutting.specs.Recut.{recut, recutAt, Cuts, SameVault}
 use Rattle.recutting.proofs.Theorem.{length-recut}
 
-pub cuts-at : (t f : List ℕ) (k : Keys) (p : ℕ) → start t f ≡ begun k p → (z : ℕ) → 0 < z
+cuts-at : (t f : List ℕ) (k : Keys) (p : ℕ) → start t f ≡ begun k p → (z : ℕ) → 0 < z
     → p + cutLength z (length (text f p)) ≤ fileLimit
     → Cuts k f p (sizesAt z (text f p))
 cuts-at t f k p e z some l =
@@ -38,10 +38,6 @@ cuts-at t f k p e z some l =
     }
 
 module _ (t f b : List ℕ) (v : SameVault t f b) where
-  -- how many bytes the ciphertext has
-  abbrev c : ℕ
-  c = length (text f (v .place))
-
   pub cut-at : (z : ℕ) → 0 < z → v .place + cutLength z (length (text f (v .place))) ≤ fileLimit
       → BothOpen t (recutAt z (v .keys) f (v .place)) (v .keys) (v .place) b
       (blockCount z (length (text f (v .place))) + 1)
@@ -62,7 +58,7 @@ module _ (t f b : List ℕ) (v : SameVault t f b) where
       × BothOpen t (recutAt 1_048_576 (v .keys) f (v .place)) (v .keys) (v .place) b
       (blockCount 1_048_576 (length (text f (v .place))) + 1)
   now-and-before l =
-      let m = count-le 16_384 1_048_576 c (omega arith) (omega arith) in
+      let m = count-le 16_384 1_048_576 (length (text f (v .place))) (omega arith) (omega arith) in
       (cut-at 16_384 (omega arith) l, cut-at 1_048_576 (omega arith) (omega arith))
 
   -- no ciphertext: the closing block alone

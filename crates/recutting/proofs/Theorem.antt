@@ -2,12 +2,13 @@
 --
 -- In order:
 --   payload-text               the payload of a file that opens is its ciphertext's
---   recut-stands               the blocks of a cutting stand in the new file
+--   recut-starts               the new file starts as the file does
+--   recut-stands               its blocks stand in it
 --   recut-opens                .. so both openers open it
 --   recut-same                 files with one front and one ciphertext are cut alike
 --   length-recut               how long the new file is
 --   text-recut, front-recut    its ciphertext and its front are the file's
---   recut-recut                a cutting forgets the one before
+--   recut-recut                cutting a file that was cut anew is cutting the first file; recutAt-recut, at one size
 --   same-vault                 THE THEOREM; same-vault-at, with the keys and the place of the start named
 -- Assumes nothing.
 use mathlib.Core.Path.{_≡_, sym, ap, ap₂, _∙_}
@@ -30,7 +31,7 @@ use Rattle.recutting.specs.Opens.{BothOpen}
 use Rattle.recutting.specs.Recut.{Accepted, recut, recutAt, Cuts, SameVault}
 use Rattle.recutting.proofs.Laws.Front.{start-behind}
 use Rattle.recutting.proofs.Laws.Text.{text-blocks}
-use Rattle.recutting.proofs.Opens.{both-open, more-steps, accepted-begins}
+use Rattle.recutting.proofs.Opens.{both-open, more-steps, accepted-begins, accepted-whole}
 
 -- the payload of a file that opens is its ciphertext's
 payload-text : (k : Keys) (f : List ℕ) (p : ℕ) (b : List ℕ) → whole k f p ≡ opened b → payload k (text f p) ≡ opened b
@@ -43,24 +44,24 @@ module _ (t f : List ℕ) (k : Keys) (p : ℕ) (e : start t f ≡ begun k p) whe
   length-front : length (take p f) ≡ p
   length-front = length-take-le p f (start-begun t f k p e .inside)
 
+  recut-starts : (ns : List ℕ) → Cuts k f p ns → start t (recut k f p ns) ≡ begun k p
+  unfolding recut
+  recut-starts ns c = start-behind t f _ k p (omega (arith, c .fits)) e
+
   pub recut-stands : (ns : List ℕ) → Cuts k f p ns → InBlocks (k .base) (recut k f p ns) 0 p (pieces ns (text f p))
   unfolding recut
   recut-stands ns c =
       blocks-stand (k .base) (recut k f p ns) (omega (arith, c .fits)) (pieces ns (text f p)) 0 p
-      (drop-at (take p f) (blocksFrom (k .base) 0 (pieces ns (text f p))) p length-front)
-      (pieces-some ns (text f p) (c .positive) (c .adds-up))
+      (drop-at (take p f) _ p length-front)
+      (pieces-some ns (text f p) (c .positive) (omega (arith, c .adds-up)))
 
-  recut-starts : (ns : List ℕ) → Cuts k f p ns → start t (recut k f p ns) ≡ begun k p
-  unfolding recut
-  recut-starts ns c =
-      start-behind t f (blocksFrom (k .base) 0 (pieces ns (text f p))) k p (omega (arith, c .fits)) e
-
-  pub recut-opens : (b : List ℕ) → whole k f p ≡ opened b → (ns : List ℕ) → Cuts k f p ns
+  recut-opens : (b : List ℕ) → whole k f p ≡ opened b → (ns : List ℕ) → Cuts k f p ns
       → BothOpen t (recut k f p ns) k p b (length ns + 1)
   recut-opens b o ns c =
       more-steps (omega (arith, length-pieces ns (text f p)))
       (both-open t (recut k f p ns) k p b (recut-starts ns c) (pieces ns (text f p)) (recut-stands ns c)
-      (ap (λ (x : List ℕ). payload k x) (joined-pieces ns (text f p) (c .adds-up)) ∙ payload-text k f p b o))
+      (ap (λ (x : List ℕ). payload k x) (joined-pieces ns (text f p) (omega (arith, c .adds-up)))
+      ∙ payload-text k f p b o))
 
 -- files with one front and one ciphertext are cut alike
 pub recut-same : (k : Keys) (f g : List ℕ) (p : ℕ) → take p f ≡ take p g → text f p ≡ text g p → (ns : List ℕ)
@@ -107,23 +108,21 @@ module _ (t f : List ℕ) (k : Keys) (p : ℕ) (e : start t f ≡ begun k p) whe
 pub same-vault : (t f b : List ℕ) → Accepted t f b → SameVault t f b
 same-vault t f b a =
     let s = accepted-begins t f b a in
+    let k : Keys = s .keys in
+    let p : ℕ = s .place in
+    let h = opened-blocks k f b p (s .payload-is) in
     record {
-      keys = s .keys;
-      place = s .place;
+      keys = k;
+      place = p;
       begins = s .begins;
-      other-cutting = λ ns c.
-          more-steps (omega arith) (recut-opens t f (s .keys) (s .place) (s .begins) b (s .payload-is) ns c);
+      other-cutting = λ ns c. more-steps (omega arith) (recut-opens t f k p (s .begins) b (s .payload-is) ns c);
+      blocks = length (h .data-are) + 1;
+      itself = both-open t f k p b (s .begins) (h .data-are) (h .stand)
+          (sym (whole-blocks k f (h .data-are) p (h .stand)) ∙ s .payload-is);
     }
 
 -- .. with the keys and the place of the file's start named
-begun-alike : (k l : Keys) (p q : ℕ) → begun k p ≡ begun l q → (k ≡ l) × (p ≡ q)
-begun-alike k l p q e = (cc, cc)
-
 pub same-vault-at : (t f b : List ℕ) → Accepted t f b → (k : Keys) (p : ℕ) → start t f ≡ begun k p
     → (ns : List ℕ) → Cuts k f p ns
     → BothOpen t (recut k f p ns) k p b (length ns + 1)
-same-vault-at t f b a k p e =
-    let s = accepted-begins t f b a in
-    let x = begun-alike (s .keys) k (s .place) p (sym (s .begins) ∙ e) in
-    recut-opens t f k p e b
-    (ap₂ (λ (y : Keys) (q : ℕ). whole y f q) (sym (x .0)) (sym (x .1)) ∙ s .payload-is)
+same-vault-at t f b a k p e ns c = recut-opens t f k p e b (accepted-whole t f b a k p e) ns c

@@ -7,6 +7,7 @@
 --   "is accepted with the same payload by both openers, given the same T and
 --    enough room"                                                               SameVault
 --   "cuts blocks at 1,000 bytes"                                                recutAt
+--   a file that is another one in such a cutting                                IsCutting
 -- t is T, f the file, k are its keys, p is the place of its first block, ns are the new sizes, b is the payload.
 -- Not here: cutting, and the blocks of pieces (crate cutting); the ciphertext in a file (crate open_whole, Ciphertext).
 -- Assumes nothing.
@@ -49,10 +50,12 @@ pub record IsCutting (k : Keys) (f : List ℕ) (p : ℕ) (g : List ℕ) : Type 0
   pub same-file : recut k f p sizes ≡ g
 
 -- under the keys that the file's start gave, each such cutting is accepted by both openers with the payload b; one step
--- for each size and one for the closing block are enough
+-- for each size and one for the closing block are enough. The file itself is, too, with its own blocks
 pub record SameVault (t f b : List ℕ) : Type 0 where
   pub keys : Keys
   pub place : ℕ
   pub begins : start t f ≡ begun keys place
   pub other-cutting : (ns : List ℕ) → Cuts keys f place ns
       → BothOpen t (recut keys f place ns) keys place b (length ns + 1)
+  pub blocks : ℕ
+  pub itself : BothOpen t f keys place b blocks

@@ -4,7 +4,8 @@
 --   cuts                        5 and 27 are sizes that add up to it
 --   stand, first, second        so its blocks stand in the file, with their sizes and data
 --   plaintext-is                their ciphertext is the payload's, so their plaintext is the payload, padded
---   has-5-27                    the file starts, and has the blocks and the padding of which the worked numbers speak
+--   file-is                     the file's bytes
+--   has-5-27                    the file opens, and has the blocks and the padding of which the worked numbers speak
 -- Assumes nothing.
 use mathlib.Core.Path.{_≡_, sym, ap, ap₂, _∙_}
 use mathlib.Core.List.{List, [], _∷_, _++_, append-nil}
@@ -20,9 +21,10 @@ use Rattle.pkcs7.proofs.Laws.Padding.{padding-padded, padded-pad, length-pad, b
 use Rattle.ciphers.specs.declared.Cipher.the-variants.{Aes256}
 use Rattle.aes_cbc.proofs.RoundTrip.{aesCbc-decrypt-encrypt}
 use Rattle.header_writer.specs.declared.Checked.the-variants.{As}
-use Rattle.block_stream.specs.Blocks.{judge, dataAt}
+use Rattle.block_stream.specs.Blocks.{blockBytes, judge, dataAt}
 use Rattle.block_stream.specs.declared.Block.the-variants.{Data, Closing}
-use Rattle.cutting.specs.Cutting.{Positive, total, pieces, joined, InBlocks, blockCount}
+use Rattle.sha2.specs.Feeds.{joined}
+use Rattle.cutting.specs.Cutting.{Positive, total, pieces, blocksFrom, InBlocks, blockCount}
 use Rattle.cutting.proofs.Laws.Pieces.{joined-pieces}
 use Rattle.opening.specs.declared.Keys.{Keys}
 use Rattle.opening.specs.Decryption.{decryptionBy}
@@ -30,15 +32,15 @@ use Rattle.opening.specs.Worked.{ciphertext}
 use Rattle.opening.proofs.Laws.Payload.{length-encrypted}
 use Rattle.open_whole.specs.Ciphertext.{text}
 use Rattle.recutting.specs.Opens.{BothOpen}
-use Rattle.recutting.specs.Recut.{by-whole, Cuts}
+use Rattle.recutting.specs.Recut.{by-whole, recut, Cuts}
 use Rattle.recutting.proofs.Theorem.{length-recut, recut-stands, same-vault-at}
 use Rattle.writer.specs.Written.{Figures, headerOf, encryptionBy, fileBytes, checkedOf}
 use Rattle.writer.proofs.Laws.Files.{length-summed}
 use Rattle.round_trip.specs.Opens.{fileKeys, firstBlock, Opens}
-use Rattle.round_trip.specs.Worked.{in5And27, Has5And27}
+use Rattle.round_trip.specs.Worked.{frontOf, in5And27, Has5And27}
 use Rattle.round_trip.proofs.Laws.Started.{cipher-is, length-nonce, nonce-block}
 use Rattle.round_trip.proofs.Theorem.{written-opens}
-use Rattle.round_trip.proofs.Recut.{text-written}
+use Rattle.round_trip.proofs.Recut.{text-written, front-written}
 use Rattle.round_trip.proofs.LargerBlocks.{length-fileCut}
 
 module _ (g : Figures) (t b : List ℕ) (ok : checkedOf g ≡ As Aes256) (short : length (headerOf g Aes256) ≡ 207)
@@ -134,10 +136,20 @@ module _ (g : Figures) (t b : List ℕ) (ok : checkedOf g ≡ As Aes256) (short 
       ∙ aesCbc-decrypt-encrypt (k .«round_keys» .words) (k .nonce) (nonce-block g Aes256 t ok nonce-bytes) (pad b) e
       (bytes-pad b payload-bytes)
 
+  file-is : in5And27 g t b
+      ≡ frontOf Aes256 g t
+      ++ (blockBytes (k .base) 0 (take 5 encryption)
+      ++ (blockBytes (k .base) 1 (take 27 (drop 5 encryption)) ++ blockBytes (k .base) 2 []))
+  unfolding recut pieces blocksFrom
+  file-is =
+      ap₂ (λ (x y : List ℕ). x ++ blocksFrom (k .base) 0 (pieces (5 ∷ 27 ∷ []) y))
+      (front-written writtenBlock block-positive g Aes256 t b fits) text-is
+
   pub has-5-27 : Has5And27 g t b
   has-5-27 =
       record {
-        starts = both .starts;
+        bytes-are = file-is;
+        opens = both;
         blocks = record {
           aes = cipher-is g Aes256 t;
           nonce-is = length-nonce g Aes256 t ok;

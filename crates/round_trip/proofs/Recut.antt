@@ -59,11 +59,11 @@ module _ (z : ℕ) (some : 0 < z) (g : Figures) (c : Cipher) (t b : List ℕ)
   pub text-written : text (fileCut z g c t b) (firstBlock g c) ≡ encryptionBy c (fileKeys g c t) b
   text-written = text-blocks (k .base) f (cut z encryption) 0 p stand ∙ joined-cut z some encryption
 
-  front-written : take p f ≡ front
+  pub front-written : take (firstBlock g c) (fileCut z g c t b) ≡ summed (fileKeys g c t .base) (headerOf g c)
   unfolding fileCut fileWith
   front-written = take-at front (blocksFrom (k .base) 0 (cut z encryption)) p length-front
 
-  pub recut-written : (w : ℕ) → 0 < w
+  recut-written : (w : ℕ) → 0 < w
       → recutAt w (fileKeys g c t) (fileCut z g c t b) (firstBlock g c) ≡ fileCut w g c t b
   unfolding recut fileCut fileWith
   recut-written w positive =

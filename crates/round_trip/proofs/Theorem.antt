@@ -26,7 +26,18 @@ use Rattle.opening.specs.Decryption.{opened, payloadBy, payload}
 use Rattle.opening.proofs.Laws.Payload.{payload-aes, payload-chaCha}
 use Rattle.vault.specs.Vault.{start, begun}
 use Rattle.recutting.proofs.Opens.{begun-blocks}
-use Rattle.writer.specs.Written.{Figures, sizes, encryptionBy, headerOf, fileWith, fileCut, fileBytes, checkedOf, writing, shown}
+use Rattle.writer.specs.Written.{
+  Figures,
+  sizes,
+  encryptionBy,
+  headerOf,
+  fileWith,
+  fileCut,
+  fileBytes,
+  checkedOf,
+  writing,
+  shown,
+}
 use Rattle.writer.specs.Stretches.{summed}
 use Rattle.writer.proofs.Laws.Files.{length-summed}
 use Rattle.round_trip.specs.Opens.{fileKeys, firstBlock, Opens, WrittenOpens}

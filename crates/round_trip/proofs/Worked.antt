@@ -53,7 +53,6 @@ use Rattle.writer.specs.Written.{
   fileBytes,
   checkedOf,
   writing,
-  shown,
 }
 use Rattle.writer.specs.Stretches.{textLength, blocksLength, fileLength}
 use Rattle.writer.proofs.Laws.Blocks.{blocks-full, blocks-last}

@@ -6,7 +6,8 @@
 --   Item 13, "Same vault, other cutting": at the one block size and at the other        SinceThen.cut-anew, cut-back
 -- Before are the numbers of document 01, "Numbers of the terminal". g are the figures, t is T, b the payload, and n
 -- bytes are lent.
--- Not here: that any cutting opens (proofs/Theorem, written-opens).
+-- Not here: that a file in blocks of any one size opens (proofs/Theorem, written-opens), and in any cutting (crate
+-- recutting, same-vault).
 -- Assumes nothing.
 use mathlib.Core.Path.{_≡_}
 use mathlib.Core.List.{List}
@@ -18,7 +19,18 @@ use Rattle.ciphers.specs.declared.Cipher.{Cipher}
 use Rattle.header_writer.specs.declared.Checked.the-variants.{As}
 use Rattle.cutting.specs.Cutting.{cut}
 use Rattle.recutting.specs.Recut.{IsCutting}
-use Rattle.writer.specs.Written.{Figures, Sizes, sizes, encryptionBy, checkedOf, fileCut, writingWith, shownWith, writing, shown}
+use Rattle.writer.specs.Written.{
+  Figures,
+  Sizes,
+  sizes,
+  encryptionBy,
+  checkedOf,
+  fileCut,
+  writingWith,
+  shownWith,
+  writing,
+  shown,
+}
 use Rattle.round_trip.specs.Opens.{fileKeys, firstBlock, Opens}
 
 abbrev pub before : Sizes

@@ -46,6 +46,7 @@ use Rattle.opening.specs.Decryption.{decryptionBy}
 use Rattle.opening.specs.Agreement.{stepAnswers, handedOver, plainAfter}
 use Rattle.opening.specs.Worked.{Blocks5And27, ClosingBehind, ciphertext, writtens}
 use Rattle.vault.specs.Vault.{start, begun}
+use Rattle.recutting.specs.Opens.{BothOpen}
 use Rattle.recutting.specs.Recut.{recut}
 use Rattle.writer.specs.Written.{Figures, headerOf, encryptionBy, fileBytes, writing, shown}
 use Rattle.writer.specs.Stretches.{summed}
@@ -99,9 +100,16 @@ inTwoBlocks c g t b =
 abbrev pub in5And27 : Figures → List ℕ → List ℕ → List ℕ
 in5And27 g t b = recut (fileKeys g Aes256 t) (fileBytes g Aes256 t b) (firstBlock g Aes256) (5 ∷ 27 ∷ [])
 
--- such a file starts, and has the blocks of which the table speaks
+-- such a file opens, and has the blocks of which the table speaks
 pub record Has5And27 (g : Figures) (t b : List ℕ) : Type 0 where
-  pub starts : start t (in5And27 g t b) ≡ begun (fileKeys g Aes256 t) (firstBlock g Aes256)
+  -- its bytes
+  pub bytes-are : in5And27 g t b
+      ≡ frontOf Aes256 g t
+      ++ (blockBytes (tagBaseOf Aes256 g t) 0 (take 5 (textOf Aes256 g t b))
+      ++ (blockBytes (tagBaseOf Aes256 g t) 1 (take 27 (drop 5 (textOf Aes256 g t b)))
+      ++ blockBytes (tagBaseOf Aes256 g t) 2 []))
+  -- it opens to the payload, in three steps
+  pub opens : BothOpen t (in5And27 g t b) (fileKeys g Aes256 t) (firstBlock g Aes256) b 3
   pub blocks : Blocks5And27 (fileKeys g Aes256 t) (in5And27 g t b) (firstBlock g Aes256)
   pub closing : ClosingBehind (fileKeys g Aes256 t) (in5And27 g t b) (firstBlock g Aes256)
   pub padding-is : padding

@@ -2,7 +2,7 @@
 --
 -- In order:
 --   found-closing, found-data      what a block of a size is found to be
---   data-behind                    a block's data stand behind its tag and size
+--   data-behind, stand-data        a block's data stand behind its tag and size, and it passes
 --   blocks-stand                   blocks of pieces pass, and are found with their data
 --   blocks-inside                  .. and lie within the file
 --   length-blocksFrom              how long they are
@@ -17,10 +17,11 @@ use borrow.Author.Tests.{ne-eqb}
 use Rattle.words.specs.Endian.{leBytes}
 use Rattle.words.proofs.Laws.Endian.{length-leBytes}
 use Rattle.refusals.specs.Limits.{fileLimit}
-use Rattle.block_stream.specs.Blocks.{blockTag, blockBytes, found}
+use Rattle.sha2.specs.Feeds.{joined}
+use Rattle.block_stream.specs.Blocks.{blockTag, blockBytes, found, judge, dataAt}
 use Rattle.block_stream.specs.declared.Block.the-variants.{Data, Closing}
 use Rattle.block_stream.proofs.Laws.Judged.{length-blockTag, length-blockBytes, judge-standing}
-use Rattle.cutting.specs.Cutting.{blocksFrom, joined, NonEmpty, InBlocks}
+use Rattle.cutting.specs.Cutting.{blocksFrom, NonEmpty, InBlocks}
 
 found-closing : found 0 ≡ Closing
 unfolding found
@@ -41,6 +42,19 @@ data-behind base d r f i p e =
     length-append tag size ∙ omega (arith, length-blockTag base (size ++ d) i, length-leBytes 4 (length d)) in
     sym (drop-drop 36 p f) ∙ ap (drop 36) (e ∙ a) ∙ drop-at (tag ++ size) (d ++ r) 36 l
 
+-- .. within the limit: it passes, its data are found, and r stands behind it
+stand-data : (base d r f : List ℕ) (i p : ℕ) → length f ≤ fileLimit → drop p f ≡ blockBytes base i d ++ r → 1 ≤ length d
+    → (judge base f i p ≡ Data (length d))
+    × ((dataAt f p (length d) ≡ d) × (drop (p + 36 + length d) f ≡ r))
+stand-data base d r f i p l e h =
+    let b : drop (p + 36) f ≡ d ++ r = data-behind base d r f i p e in (
+      judge-standing base d r f i p l e ∙ found-data (length d) h,
+      (
+        ap (take (length d)) b ∙ take-append-seam d r,
+        sym (drop-drop (length d) (p + 36) f) ∙ ap (drop (length d)) b ∙ drop-append-seam d r,
+      ),
+    )
+
 pub blocks-stand : (base f : List ℕ) → length f ≤ fileLimit → (ds : List (List ℕ)) (i p : ℕ)
     → drop p f ≡ blocksFrom base i ds → NonEmpty ds
     → InBlocks base f i p ds
@@ -50,13 +64,8 @@ blocks-stand base f l [] i p e h = (
   omega (arith, length-drop p f, ap length e, length-blockBytes base [] i),
 )
 blocks-stand base f l (d ∷ ds) i p e h =
-    let r = blocksFrom base (suc i) ds in
-    let b : drop (p + 36) f ≡ d ++ r = data-behind base d r f i p e in
-    let n : drop (p + 36 + length d) f ≡ r =
-    sym (drop-drop (length d) (p + 36) f) ∙ ap (drop (length d)) b ∙ drop-append-seam d r in (
-      judge-standing base d r f i p l e ∙ found-data (length d) (h .0),
-      (ap (take (length d)) b ∙ take-append-seam d r, blocks-stand base f l ds (suc i) (p + 36 + length d) n (h .1)),
-    )
+    let s = stand-data base d _ f i p l e (h .0) in
+    (s .0, (s .1 .0, blocks-stand base f l ds (suc i) (p + 36 + length d) (s .1 .1) (h .1)))
 
 pub blocks-inside : (base f : List ℕ) (ds : List (List ℕ)) (i p : ℕ) → InBlocks base f i p ds
     → p + 36 * (length ds + 1) ≤ length f

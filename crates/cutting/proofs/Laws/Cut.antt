@@ -14,13 +14,23 @@
 use mathlib.Core.Path.{_≡_, refl, sym, ap, ap₂, _∙_}
 use mathlib.Core.List.{List, [], _∷_, _++_}
 use Prim.Native.Nat.{ℕ, zero, suc, _+_, _-_, _*_, _/_, _≤_, _<_}
-use native.Mathlib.Nat.{zero-mul, suc-mul, mul-add, mul-le-mul-left, div-eq-of-lt, div-eq-sub-div, div-mul-le-self, le-div-iff-mul-le}
+use native.Mathlib.Nat.{
+  zero-mul,
+  suc-mul,
+  mul-add,
+  mul-le-mul-left,
+  div-eq-of-lt,
+  div-eq-sub-div,
+  div-mul-le-self,
+  le-div-iff-mul-le,
+}
 use native.Mathlib.Omega.{arith}
 use lib.Dec.{eqb, leb}
 use lib.ListN.{length, take, drop, length-append, length-take, length-drop, drop-of-length-le, take-append-drop}
 use lib.Seq.{take-all, take-at, drop-at}
 use borrow.Author.Tests.{eq-eqb, ne-eqb, eqb-true, eqb-false, leb-true, leb-false}
 use Rattle.words.proofs.Laws.Cases.{by-bool}
+use Rattle.sha2.specs.Feeds.{joined}
 use Rattle.cutting.specs.Cutting.{
   Positive,
   total,
@@ -28,13 +38,18 @@ use Rattle.cutting.specs.Cutting.{
   cutIn,
   cut,
   blocksFrom,
-  joined,
   sizesAt,
   NonEmpty,
   blockCount,
   cutLength,
 }
-use Rattle.cutting.proofs.Laws.Pieces.{length-nil, pieces-lengths, total-lengths, lengths-positive, length-lengths}
+use Rattle.cutting.proofs.Laws.Pieces.{
+  length-nil,
+  pieces-lengths,
+  total-lengths,
+  lengths-positive,
+  length-lengths,
+}
 use Rattle.cutting.proofs.Laws.Blocks.{length-blocksFrom}
 
 -- rounding up: none, and one more
@@ -60,7 +75,7 @@ module _ (z : ℕ) (some : 0 < z) where
   shorter : (t : List ℕ) (m : ℕ) → length t ≤ suc m → (length t ≡ 0 → ⊥) → length (drop z t) ≤ m
   shorter t m h n = omega (arith, length-drop z t)
 
-  pub cutIn-same : (m n : ℕ) (t : List ℕ) → length t ≤ m → length t ≤ n → cutIn z m t ≡ cutIn z n t
+  cutIn-same : (m n : ℕ) (t : List ℕ) → length t ≤ m → length t ≤ n → cutIn z m t ≡ cutIn z n t
   unfolding cutIn
   cutIn-same zero zero t h l = refl
   cutIn-same zero (suc n) t h l =

@@ -1,38 +1,40 @@
 -- A list in pieces.
 --
 -- In order:
---   length-nil                                          a list of no length is empty
---   joined-pieces, pieces-some, length-pieces           pieces of positive sizes that add up to a list
---   pieces-lengths, total-lengths, lengths-positive     .. and any pieces at all are such, by their own sizes
+--   length-nil                        a list of no length is empty
+--   joined-pieces                     pieces of sizes that add up to a list are the list again
+--   pieces-some                       of positive sizes none is empty
+--   length-pieces                     they are as many as the sizes
+--   pieces-lengths, total-lengths, lengths-positive, length-lengths
+--                                     any pieces at all are such, by their own sizes
 -- Assumes nothing.
 use mathlib.Core.Path.{_≡_, refl, sym, ap, ap₂, _∙_}
 use mathlib.Core.List.{List, [], _∷_, _++_}
-use Prim.Native.Nat.{ℕ, suc, _+_}
+use Prim.Native.Nat.{ℕ, suc, _+_, _≤_}
 use native.Mathlib.Omega.{arith}
 use lib.ListN.{length, take, drop, length-append, length-drop, take-append-drop}
 use lib.Seq.{length-take-le, take-append-seam, drop-append-seam}
-use Rattle.cutting.specs.Cutting.{Positive, total, pieces, joined, lengths, NonEmpty}
+use Rattle.sha2.specs.Feeds.{joined}
+use Rattle.cutting.specs.Cutting.{Positive, total, pieces, lengths, NonEmpty}
 
 pub length-nil : (t : List ℕ) → length t ≡ 0 → t ≡ []
 length-nil [] h = refl
 length-nil (x ∷ t) h = absurd (omega arith)
 
--- what is left behind the first piece
-total-rest : (n : ℕ) (ns t : List ℕ) → n + total ns ≡ length t → total ns ≡ length (drop n t)
-total-rest n ns t e = omega (arith, length-drop n t)
-
 pub joined-pieces : (ns t : List ℕ) → total ns ≡ length t → joined (pieces ns t) ≡ t
 unfolding total pieces joined
 joined-pieces [] t e = sym (length-nil t (sym e))
 joined-pieces (n ∷ ns) t e =
-    ap (λ (r : List ℕ). take n t ++ r) (joined-pieces ns (drop n t) (total-rest n ns t e)) ∙ take-append-drop n t
+    let r : total ns ≡ length (drop n t) = omega (arith, length-drop n t) in
+    ap (λ (x : List ℕ). take n t ++ x) (joined-pieces ns (drop n t) r) ∙ take-append-drop n t
 
-pub pieces-some : (ns t : List ℕ) → Positive ns → total ns ≡ length t → NonEmpty (pieces ns t)
+pub pieces-some : (ns t : List ℕ) → Positive ns → total ns ≤ length t → NonEmpty (pieces ns t)
 unfolding Positive total pieces NonEmpty
 pieces-some [] t h e = tt
 pieces-some (n ∷ ns) t h e =
     let l : length (take n t) ≡ n = length-take-le n t (omega arith) in
-    (omega (arith, l, h .0), pieces-some ns (drop n t) (h .1) (total-rest n ns t e))
+    let r : total ns ≤ length (drop n t) = omega (arith, length-drop n t) in
+    (omega (arith, l, h .0), pieces-some ns (drop n t) (h .1) r)
 
 pub length-pieces : (ns t : List ℕ) → length (pieces ns t) ≡ length ns
 unfolding pieces

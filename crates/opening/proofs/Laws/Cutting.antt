@@ -18,7 +18,8 @@ use Rattle.refusals.specs.declared.Refusal.the-variants.{NoRoom, TrailingBytes}
 use Rattle.block_stream.specs.Blocks.{judge, dataAt}
 use Rattle.block_stream.specs.declared.Block.{Block}
 use Rattle.block_stream.specs.declared.Block.the-variants as block
-use Rattle.cutting.specs.Cutting.{joined, InBlocks}
+use Rattle.sha2.specs.Feeds.{joined}
+use Rattle.cutting.specs.Cutting.{InBlocks}
 use Rattle.cutting.proofs.Laws.Blocks.{blocks-inside}
 use Rattle.opening.specs.declared.Keys.{Keys}
 use Rattle.opening.specs.declared.Phase.the-variants.{Open, Closed, Ended}
@@ -91,7 +92,8 @@ plainStep-found : (k : Keys) (f : List ℕ) (i p : ℕ) (t : List ℕ) (n : ℕ)
 unfolding plainStep plainIn plain
 plainStep-found k f i p t n v e = ap (λ (x : Block). plainOn x k f i p t n) e
 
--- a reply, and the steps with ns lent behind it: where more than m of them have room, the opening is not open behind them
+-- a reply, and the steps with ns lent behind it: where more than m of them have room, the opening is not open behind
+-- them
 abbrev Leaves : Keys → List ℕ → List ℕ → ℕ → Reply Plain → Type 0
 Leaves k f ns m x =
     m < withRoom (x .answer ∷ answers (plainStep k f) (x .next) ns) → after (plainStep k f) (x .next) ns .phase ≢ Open

@@ -7,7 +7,8 @@ use mathlib.Core.List.{List, [], _∷_, _++_}
 use Prim.Native.Nat.{ℕ, suc, _+_}
 use native.Mathlib.Omega.{arith}
 use lib.ListN.{length}
-use Rattle.cutting.specs.Cutting.{joined, InBlocks}
+use Rattle.sha2.specs.Feeds.{joined}
+use Rattle.cutting.specs.Cutting.{InBlocks}
 use Rattle.open_whole.specs.Ciphertext.{text}
 use Rattle.open_whole.proofs.Laws.Sizes.{judge-data, judge-closing, text-more, text-end}
 

@@ -54,7 +54,7 @@ module _ (f : List ℕ) (h : Header) (e : header f ≡ read.Header h) where
       let l = stands .nonce-length in
       rw (length-within f (h .nonce .start) (h .nonce .length) (omega arith)) (omega arith)
 
-pub nonce-keysOf : (t f : List ℕ) (h : Header) → header f ≡ read.Header h → length (keysOf t f h .nonce) ≡ 16
+nonce-keysOf : (t f : List ℕ) (h : Header) → header f ≡ read.Header h → length (keysOf t f h .nonce) ≡ 16
 unfolding keysOf keysWith
 nonce-keysOf t f h e =
     ap length (keysFor-nonce (h .cipher) _ (padded (bytesAt f (h .nonce))) _)
