@@ -10,7 +10,7 @@ to give another payload, by both openers.
 import multiprocessing
 from random import Random
 
-from inputs.recuts import WRONG, cutting_of, lents_for, payload_length, some_cutting, wrong_cutting
+from inputs.recuts import WRONG, bytes_due, cutting_of, lents_for, payload_length, some_cutting, wrong_cutting
 from inputs.requests import sound_write
 from model.limits import AFTER_END, FILE_LIMIT
 
@@ -69,6 +69,8 @@ class File:
         # Due is 0 once for each size and once for the closing block.
         if steps["no"] != 0 or [step["no"] for step in steps["steps"]] != list(self.due):
             return "different: the numbers of the steps"
+        if [step["count"] for step in steps["steps"] if step["no"] == 0] != bytes_due(self.cutting):
+            return "different: how many bytes a step hands over"
         if any("touched" in step for step in steps["steps"]):
             return "different: a byte of a step that is not due"
         if "".join(step["bytes"] for step in steps["steps"]) != before["payload"]:
@@ -120,7 +122,8 @@ def check(task):
 
 
 def check_recut(asking, seed, first, count, jobs):
-    """Check files first to count; True where none differs and every wrong cutting is told apart."""
+    """Check files first to count; True where none differs and every wrong cutting is told apart. Of many files some have
+    to be in other blocks than before, and some wrong cuttings have to be tried."""
     tasks = ((asking, seed, range(at, min(at + CHUNK, count))) for at in range(first, count, CHUNK))
     checked, other, wrong, different, missed = 0, 0, 0, [], []
     with multiprocessing.Pool(jobs) as pool:
@@ -134,4 +137,5 @@ def check_recut(asking, seed, first, count, jobs):
     told = "%d not told apart" % len(missed) if missed else "all told apart"
     print("%d wrong cuttings, %s" % (wrong, told))
     print("%d recut, %d different" % (checked, len(different)))
-    return not (different or missed)
+    enough = checked < CHUNK or (other and wrong)
+    return bool(enough) and not (different or missed)

@@ -57,7 +57,7 @@ def of_other_programs(cases, entries):
 
 
 def wrong(cases):
-    """Cut at 10 bytes and 10, but not so."""
+    """Wrong cuttings of 20 bytes into 10 and 10, and of 31 of AES's 32 bytes."""
     payload, text = pattern(20), ciphertext(CHACHA20, pattern(20))
     a, b = text[:10], text[10:]
     first, ahead = step(payload[:10]), front(CHACHA20)
@@ -75,8 +75,10 @@ def wrong(cases):
     ):
         cases.add("open", f"wrong cutting: {name}", answer, data=ahead + file, T=T)
         cases.add("steps", f"wrong cutting: {name}", {"steps": steps}, data=ahead + file, T=T, lents=[99] * 3)
-    short = ciphertext(AES, payload)[:-1]
-    cases.add("open", "wrong cutting: AES sizes that fall short", 16, data=sealed(AES, short, 10, 21), T=T)
+    short = sealed(AES, ciphertext(AES, payload)[:-1], 10, 21)
+    steps = [step(b""), step(payload[:16]), no_step(16)]
+    cases.add("open", "wrong cutting: AES sizes that fall short", 16, data=short, T=T)
+    cases.add("steps", "wrong cutting: AES sizes that fall short", {"steps": steps}, data=short, T=T, lents=[99] * 3)
 
 
 def add_all(cases, entries):

@@ -1,7 +1,7 @@
 """Vaults in other blocks, for tests/interop (document 02, Item 13): those of each program and of the library, and some
 fixtures, cut anew at 1,000 bytes as another maker's program cuts, at single bytes and at odd sizes.
 
-tests/model cuts them, apart from the library. Of the file before and of the file after each program reads the same, and
+tests/model cuts them, apart from the library. Each program reads the same of the file before and of the file after, and
 the library opens both to the same payload, the one after whole and block by block.
 """
 import dataclasses

@@ -139,7 +139,8 @@ def answer_steps(request):
 
 
 def answer_recut(request):
-    """What both openers answer to the file cut anew; `cut` is false where the sizes do not add up to its ciphertext."""
+    """What both openers answer to the file cut anew; `cut` is false where the sizes are not positive, or do
+    not add up to its ciphertext."""
     made = recut.recut(octets(request, "data"), octets(request, "T"), request["sizes"])
     if made is None:
         return {"cut": False}
