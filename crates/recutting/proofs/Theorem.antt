@@ -19,7 +19,7 @@ use lib.ListN.{length, take, length-append}
 use lib.Seq.{length-take-le, take-at, drop-at}
 use Rattle.cutting.specs.Cutting.{total, pieces, blocksFrom, sizesAt, InBlocks}
 use Rattle.cutting.proofs.Laws.Pieces.{joined-pieces, pieces-some, length-pieces}
-use Rattle.cutting.proofs.Laws.Blocks.{length-blocksFrom, blocks-stand}
+use Rattle.cutting.proofs.Laws.Blocks.{length-blocksFrom, blocks-stand, length-inBlocks}
 use Rattle.opening.specs.declared.Keys.{Keys}
 use Rattle.opening.specs.Decryption.{opened, payload}
 use Rattle.opening.specs.Whole.{whole}
@@ -117,6 +117,9 @@ same-vault t f b a =
       begins = s .begins;
       other-cutting = λ ns c. more-steps (omega arith) (recut-opens t f k p (s .begins) b (s .payload-is) ns c);
       blocks = length (h .data-are) + 1;
+      count-is = length-inBlocks (k .base) f (h .data-are) 0 p (h .stand)
+          ∙ ap (λ (x : List ℕ). p + (length x + 36 * (length (h .data-are) + 1)))
+          (sym (text-blocks (k .base) f (h .data-are) 0 p (h .stand)));
       itself = both-open t f k p b (s .begins) (h .data-are) (h .stand)
           (sym (whole-blocks k f (h .data-are) p (h .stand)) ∙ s .payload-is);
     }

@@ -13,7 +13,7 @@
 -- Assumes nothing.
 use mathlib.Core.Path.{_≡_}
 use mathlib.Core.List.{List, _++_}
-use Prim.Native.Nat.{ℕ, _+_, _≤_}
+use Prim.Native.Nat.{ℕ, _+_, _*_, _≤_}
 use lib.ListN.{length, take}
 use Rattle.refusals.specs.Limits.{fileLimit}
 use Rattle.cutting.specs.Cutting.{Positive, total, pieces, blocksFrom, sizesAt}
@@ -50,7 +50,8 @@ pub record IsCutting (k : Keys) (f : List ℕ) (p : ℕ) (g : List ℕ) : Type 0
   pub same-file : recut k f p sizes ≡ g
 
 -- under the keys that the file's start gave, each such cutting is accepted by both openers with the payload b; one step
--- for each size and one for the closing block are enough. The file itself is, too, with its own blocks
+-- for each size and one for the closing block are enough. So is the file itself, with one step for each of its blocks,
+-- which are as many as its length says: a tag and a size, 36 bytes, beside the ciphertext
 pub record SameVault (t f b : List ℕ) : Type 0 where
   pub keys : Keys
   pub place : ℕ
@@ -58,4 +59,5 @@ pub record SameVault (t f b : List ℕ) : Type 0 where
   pub other-cutting : (ns : List ℕ) → Cuts keys f place ns
       → BothOpen t (recut keys f place ns) keys place b (length ns + 1)
   pub blocks : ℕ
+  pub count-is : length f ≡ place + (length (text f place) + 36 * blocks)
   pub itself : BothOpen t f keys place b blocks

@@ -4,7 +4,7 @@
 --   found-closing, found-data      what a block of a size is found to be
 --   data-behind, stand-data        a block's data stand behind its tag and size, and it passes
 --   blocks-stand                   blocks of pieces pass, and are found with their data
---   blocks-inside                  .. and lie within the file
+--   length-inBlocks                .. which they end
 --   length-blocksFrom              how long they are
 -- Assumes nothing.
 use mathlib.Core.Path.{_≡_, refl, sym, ap, _∙_}
@@ -67,12 +67,12 @@ blocks-stand base f l (d ∷ ds) i p e h =
     let s = stand-data base d _ f i p l e (h .0) in
     (s .0, (s .1 .0, blocks-stand base f l ds (suc i) (p + 36 + length d) (s .1 .1) (h .1)))
 
-pub blocks-inside : (base f : List ℕ) (ds : List (List ℕ)) (i p : ℕ) → InBlocks base f i p ds
-    → p + 36 * (length ds + 1) ≤ length f
-unfolding InBlocks
-blocks-inside base f [] i p h = omega (arith, h .1)
-blocks-inside base f (d ∷ ds) i p h =
-    omega (arith, blocks-inside base f ds (suc i) (p + 36 + length d) (h .1 .1))
+pub length-inBlocks : (base f : List ℕ) (ds : List (List ℕ)) (i p : ℕ) → InBlocks base f i p ds
+    → length f ≡ p + (length (joined ds) + 36 * (length ds + 1))
+unfolding InBlocks joined
+length-inBlocks base f [] i p h = h .1
+length-inBlocks base f (d ∷ ds) i p h =
+    length-inBlocks base f ds (suc i) (p + 36 + length d) (h .1 .1) ∙ omega (arith, length-append d (joined ds))
 
 pub length-blocksFrom : (base : List ℕ) (i : ℕ) (ds : List (List ℕ))
     → length (blocksFrom base i ds) ≡ length (joined ds) + 36 * (length ds + 1)

@@ -20,7 +20,7 @@ use Rattle.block_stream.specs.declared.Block.{Block}
 use Rattle.block_stream.specs.declared.Block.the-variants as block
 use Rattle.sha2.specs.Feeds.{joined}
 use Rattle.cutting.specs.Cutting.{InBlocks}
-use Rattle.cutting.proofs.Laws.Blocks.{blocks-inside}
+use Rattle.cutting.proofs.Laws.Blocks.{length-inBlocks}
 use Rattle.opening.specs.declared.Keys.{Keys}
 use Rattle.opening.specs.declared.Phase.the-variants.{Open, Closed, Ended}
 use Rattle.opening.specs.Decryption.{Opened, refused, opened, handed, payload}
@@ -49,7 +49,7 @@ module _ (k : Keys) (f : List ℕ) where
   pub whole-blocks : (ds : List (List ℕ)) (p : ℕ) → InBlocks (k .base) f 0 p ds → whole k f p ≡ payload k (joined ds)
   unfolding whole
   whole-blocks ds p h =
-      walk-blocks ds (length f) 0 p [] h (omega (arith, blocks-inside (k .base) f ds 0 p h))
+      walk-blocks ds (length f) 0 p [] h (omega (arith, length-inBlocks (k .base) f ds 0 p h))
 
 -- some blocks from p on
 pub record HasBlocks (base f : List ℕ) (i p : ℕ) : Type 0 where
