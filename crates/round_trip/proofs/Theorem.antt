@@ -25,7 +25,7 @@ use Rattle.opening.specs.declared.Keys.{Keys}
 use Rattle.opening.specs.Decryption.{opened, payloadBy, payload}
 use Rattle.opening.proofs.Laws.Payload.{payload-aes, payload-chaCha}
 use Rattle.vault.specs.Vault.{start, begun}
-use Rattle.recutting.proofs.Opens.{begun-blocks}
+use Rattle.recutting.proofs.Opens.{begun-blocks, more-steps}
 use Rattle.writer.specs.Written.{
   Figures,
   sizes,
@@ -86,7 +86,7 @@ module _ (z : ℕ) (some : 0 < z) (g : Figures) (c : Cipher) (t b : List ℕ) (o
   opens : Opens z g c t b f
   unfolding fileCut fileWith
   opens =
-      rw (← length-cut z some text)
+      more-steps (omega (arith, length-cut z some text))
       (begun-blocks t front k (firstBlock g c) b (cut z text) length-front fits (cut-nonempty z some text) starts
       (ap (λ (x : List ℕ). payload k x) (joined-cut z some text) ∙ payload-is))
 
