@@ -4,7 +4,7 @@ ghost use Rattle.words.specs.Xor.{xors};
 ghost use Rattle.aes.specs.Columns.{columns};
 
 // Four columns, the first byte of each the most significant.
-#[derive(Drop)]
+#[derive(Clone, Copy)]
 pub struct Columns {
     pub a: u32,
     pub b: u32,

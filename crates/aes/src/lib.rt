@@ -6,6 +6,7 @@
 // some 2,000 instructions, and 8,000 for decryption. Those of the modules below take lent tables, for callers with many
 // blocks, and promise what they make of any tables (specs/Tabled); by the right ones that is FIPS 197's (proofs,
 // Laws.Tabled). Table look-ups are not constant-time.
+#![tactic(auto)]
 ghost use Rattle.std.specs.Prelude.{◌≡◌};
 ghost use Rattle.fips197.specs.Fips197 as fips197;
 ghost use Rattle.aes.specs.Repeated.{repeated};
@@ -16,7 +17,7 @@ pub mod inv_cipher;
 pub mod schedule;
 
 // The cipher of a vault's header.
-#[derive(Drop)]
+#[derive(Clone, Copy)]
 pub struct Aes256;
 
 impl Aes256 {
@@ -29,7 +30,7 @@ impl Aes256 {
 }
 
 // A key schedule.
-#[derive(Drop)]
+#[derive(Clone, Copy)]
 pub struct RoundKeys {
     pub words: [u32; 60],
 }

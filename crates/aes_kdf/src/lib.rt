@@ -5,6 +5,7 @@
 // own; 19 where T is asked for before the end, or of a refused state. The rounds done and the halves as they stand
 // after that many are fields of the state. Every value of the struct is a state: one that is refused, or that no call
 // could have made, stays as it is. Table look-ups of AES are not constant-time.
+#![tactic(auto)]
 ghost use Rattle.std.specs.Prelude.{◌≡◌, min};
 ghost use Rattle.aes_kdf.specs.AesKdf as kdf;
 ghost use Rattle.aes_kdf.specs.State as state;
@@ -14,14 +15,14 @@ use refusals::{Outcome, Refusal};
 use sha256::Sha256;
 
 // Whether the rounds were accepted.
-#[derive(Drop)]
+#[derive(Clone, Copy)]
 pub enum Mark {
     Accepted,
     Refused,
 }
 
 // A key transformation under way: its round keys, the halves after `done` of `rounds` rounds.
-#[derive(Drop)]
+#[derive(Clone, Copy)]
 pub struct Transformation {
     pub mark: Mark,
     pub keys: RoundKeys,
@@ -32,14 +33,14 @@ pub struct Transformation {
 }
 
 // The answer of a start, and the state.
-#[derive(Drop)]
+#[derive(Clone, Copy)]
 pub struct Started {
     pub outcome: Outcome,
     pub next: Transformation,
 }
 
 // The transformed key T: zeros where it is refused.
-#[derive(Drop)]
+#[derive(Clone, Copy)]
 pub struct Transformed {
     pub outcome: Outcome,
     pub key: [u8; 32],

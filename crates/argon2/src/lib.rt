@@ -7,6 +7,7 @@
 // over the limit of a hash's message (no vault has one), 17 for fewer words than the blocks have. A refusal changes
 // nothing; a run leaves the words that it used as zeros and those behind them as they were. The lanes are computed one
 // after the other. Argon2d, and Argon2id behind its first half pass, look at places that depend on the password.
+#![tactic(auto)]
 ghost use Rattle.std.specs.Prelude.{◌≡◌, ◌*◌, ◌/◌, ◌≤◌, length, replicate};
 ghost use Rattle.argon2_fill.specs.Rfc9106 as filling;
 ghost use Rattle.argon2_fill.specs.State.{figures, Fits};
@@ -21,14 +22,14 @@ mod last;
 mod prehash;
 
 // The type of Argon2.
-#[derive(Drop)]
+#[derive(Clone, Copy)]
 pub enum Kind {
     Argon2d,
     Argon2id,
 }
 
 // The transformed key T: zeros where it is refused.
-#[derive(Drop)]
+#[derive(Clone, Copy)]
 pub struct Transformed {
     pub outcome: Outcome,
     pub key: [u8; 32],

@@ -4,6 +4,7 @@
 // memory (the crate argon2_fill) makes R of two blocks and stores the exclusive or of Z and R. Nothing is refused. No
 // index depends on the words; of branches see docs/PROMISES.md, "Not claimed". An `ensures` that asks for 128 words asks
 // nothing of an array: the proofs know no length of what lies behind a reference, and the owner of the array does.
+#![tactic(auto)]
 ghost use Rattle.std.specs.Prelude.{◌≡◌, ◌+◌, ◌*◌, ◌%◌, ◌^◌, ◌<◌, ◌≤◌, length, bit_xor};
 ghost use Rattle.words.specs.Word as word;
 ghost use Rattle.argon2_block.specs.Rfc9106 as rfc9106;
@@ -13,7 +14,7 @@ ghost use Rattle.argon2_block.specs.State.{four};
 use words::plus64;
 
 // Four words of a block.
-#[derive(Drop)]
+#[derive(Clone, Copy)]
 struct Words {
     a: u64,
     b: u64,

@@ -5,6 +5,7 @@
 // figures outside (1 to 16 lanes, 2 to 16,384 blocks a segment), or too little memory, leave the memory as it was (specs/State,
 // filled). Words behind the blocks stay. Argon2d, and Argon2id behind its first half pass, look at places that depend on the
 // password.
+#![tactic(auto)]
 ghost use Rattle.std.specs.Prelude.{◌≡◌};
 ghost use Rattle.argon2_fill.specs.Rfc9106 as rfc9106;
 ghost use Rattle.argon2_fill.specs.State as state;
@@ -15,7 +16,7 @@ mod reference;
 mod segment;
 
 // The lanes, the blocks of a segment, the passes, and the type's number: 0 for Argon2d, 2 for Argon2id.
-#[derive(Drop)]
+#[derive(Clone, Copy)]
 pub struct Figures {
     pub lanes: usize,
     pub segment: usize,
@@ -24,7 +25,7 @@ pub struct Figures {
 }
 
 // A pass, a slice, a lane, and a block's index in its segment.
-#[derive(Drop)]
+#[derive(Clone, Copy)]
 pub struct Position {
     pub pass: usize,
     pub slice: usize,

@@ -5,6 +5,7 @@
 // the digest is the first nn of them. A digest length is any byte: one outside 1 to 64, which the RFC does not have, goes
 // into h as it is. Refusal: a feed that would take the message past its limit, with the state as it was.
 // Every value of the struct is a state; how many bytes of the buffer are pending follows from the total.
+#![tactic(auto)]
 ghost use Rattle.std.specs.Prelude.{◌≡◌, ◌+◌, ◌<◌, ◌^◌, length};
 ghost use Rattle.blake2b.specs.Rfc7693 as rfc7693;
 ghost use Rattle.blake2b.specs.State as state;
@@ -16,7 +17,7 @@ mod mixing;
 mod tables;
 
 // A hash under way: the chaining words, the bytes of the last block so far, and how many bytes came in all.
-#[derive(Drop)]
+#[derive(Clone, Copy)]
 pub struct Blake2b {
     pub chain: [u64; 8],
     pub buffer: [u8; 128],
@@ -24,7 +25,7 @@ pub struct Blake2b {
 }
 
 // A feed's answer, and the next state.
-#[derive(Drop)]
+#[derive(Clone, Copy)]
 pub struct Fed {
     pub outcome: Outcome,
     pub next: Blake2b,

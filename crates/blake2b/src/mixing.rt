@@ -11,7 +11,7 @@ ghost use Rattle.blake2b.specs.Working.{four, scheduled_g};
 use words::plus64;
 
 // Four words of the working vector.
-#[derive(Drop)]
+#[derive(Clone, Copy)]
 pub(crate) struct Four {
     pub a: u64,
     pub b: u64,

@@ -4,6 +4,7 @@
 //
 // `judge` makes a block's checks; `seal` writes the tag and the size before data that stands in a lent slice. The
 // contracts cite specs/Blocks, and specs/Answers for what an answer says. Refusals: 1, 2, 5, 2 and 14, in this order.
+#![tactic(auto)]
 ghost use Rattle.std.specs.Prelude.{◌≡◌, [], ◌∷◌, ◌+◌, ◌≤◌, length};
 ghost use Rattle.words.specs.Endian.{le};
 ghost use Rattle.words.specs.Size.{int32};
@@ -16,7 +17,7 @@ use refusals::Refusal;
 use words::le::Size;
 
 // What a block is found to be: a data block with its size, the closing block, or refused.
-#[derive(Drop)]
+#[derive(Clone, Copy)]
 pub enum Block {
     Data(usize),
     Closing,

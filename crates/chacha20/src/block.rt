@@ -13,7 +13,7 @@ use words::le::u32_at;
 use words::plus32;
 
 // Four words of a state.
-#[derive(Drop)]
+#[derive(Clone, Copy)]
 pub(crate) struct Four {
     pub a: u32,
     pub b: u32,

@@ -4,6 +4,7 @@
 // restarting it. Its contract cites the crate stream's `apply` over RFC 8439's block function. The counter is a word of
 // 32 bits: behind 2^38 bytes, which no vault has, the stream begins again. No index depends on the key; of branches see
 // docs/PROMISES.md, "Not claimed".
+#![tactic(auto)]
 ghost use Rattle.std.specs.Prelude.{◌≡◌};
 ghost use Rattle.stream.specs.Stream as stream;
 ghost use Rattle.chacha20.specs.Rfc8439 as rfc8439;
@@ -11,7 +12,7 @@ ghost use Rattle.chacha20.specs.Rfc8439 as rfc8439;
 mod block;
 
 // The cipher, for the constants and the operation that are its own.
-#[derive(Drop)]
+#[derive(Clone, Copy)]
 pub struct ChaCha20;
 
 impl ChaCha20 {

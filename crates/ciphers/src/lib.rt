@@ -2,6 +2,7 @@
 //
 // The contracts cite specs/Ciphers, and specs/Answers for what an answer says. The identifiers and nonce lengths are
 // constants of each cipher's type. Refusal: 9.
+#![tactic(auto)]
 ghost use Rattle.std.specs.Prelude.{◌≡◌, [], ◌∷◌, take};
 ghost use Rattle.ciphers.specs.Ciphers as ciphers;
 ghost use Rattle.ciphers.specs.Answers as answers;
@@ -11,14 +12,14 @@ use chacha20::ChaCha20;
 use refusals::Refusal;
 
 // A payload's cipher.
-#[derive(Drop)]
+#[derive(Clone, Copy)]
 pub enum Cipher {
     Aes256,
     ChaCha20,
 }
 
 // What an identifier names.
-#[derive(Drop)]
+#[derive(Clone, Copy)]
 pub enum Identified {
     As(Cipher),
     Unlisted,

@@ -1,11 +1,12 @@
 // A number in decimal, as text of ASCII (document 02, Item 8).
 //
 // The contract cites specs/Decimal. Nothing is refused: twenty digits hold every number of 64 bits.
+#![tactic(auto)]
 ghost use Rattle.std.specs.Prelude.{◌≡◌, ◌+◌, length, drop};
 ghost use Rattle.decimal.specs.Decimal as decimals;
 
 // The digits of a number: those of the text from a start on.
-#[derive(Drop)]
+#[derive(Clone, Copy)]
 pub struct Digits {
     pub text: [u8; 20],
     pub start: usize,

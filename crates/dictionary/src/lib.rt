@@ -7,6 +7,7 @@
 // item has; the first met from the front is given, with the place of its item, or 0 where it is no item's. Repeated
 // names are searched for in batches (repeats): with a table of 64 places on the stack, and where there are more items
 // with one of 4,096 (16 KiB).
+#![tactic(auto)]
 ghost use Rattle.std.specs.Prelude.{◌≡◌, ◌+◌, ◌≤◌, length};
 ghost use Rattle.words.specs.Endian.{le};
 ghost use Rattle.words.specs.Size.{int32};
@@ -22,7 +23,7 @@ mod repeats;
 mod table;
 
 // An item: its type, and the places of its name and value.
-#[derive(Drop)]
+#[derive(Clone, Copy)]
 pub struct Item {
     pub kind: u8,
     pub name: usize,
@@ -32,7 +33,7 @@ pub struct Item {
 }
 
 // What stands at a place of a dictionary.
-#[derive(Drop)]
+#[derive(Clone, Copy)]
 pub enum Entry {
     Item(Item),
     End,
@@ -40,7 +41,7 @@ pub enum Entry {
 }
 
 // What a check comes to: sound; or the first fault, with the place of the item at fault, 0 where it is no item's.
-#[derive(Drop)]
+#[derive(Clone, Copy)]
 pub enum Verdict {
     Sound,
     Broken(usize),
@@ -48,7 +49,7 @@ pub enum Verdict {
 }
 
 // What a name is found as: the type and place of its value, absent, or that the dictionary is refused.
-#[derive(Drop)]
+#[derive(Clone, Copy)]
 pub enum Found {
     At {
         kind: u8,

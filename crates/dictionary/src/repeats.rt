@@ -10,7 +10,7 @@ use crate::{Entry, Verdict, entry_at, table};
 
 // What a batch comes to: the judgement of all items from its start on, or how many are in the table and where the rest
 // begins.
-#[derive(Drop)]
+#[derive(Clone, Copy)]
 pub enum Batch {
     Done(Verdict),
     Full { held: usize, next: usize },

@@ -6,7 +6,7 @@ ghost use Rattle.std.specs.Prelude.{◌≡◌, ◌+◌, ◌≤◌, ◌<◌, ◌^
 ghost use Rattle.dictionary.specs.Order as order;
 
 // How a name stands to another.
-#[derive(Drop)]
+#[derive(Clone, Copy)]
 pub enum Order {
     Less,
     Same,
@@ -14,7 +14,7 @@ pub enum Order {
 }
 
 // Whether a name is in a table, or the index where it would stand.
-#[derive(Drop)]
+#[derive(Clone, Copy)]
 pub enum Spot {
     Held,
     Free(usize),

@@ -2,13 +2,14 @@
 //
 // The contracts cite specs/Sentences. Nothing is refused. docs/REFUSALS.md has the same sentences, and the program
 // `vectors_open` prints them all.
+#![tactic(auto)]
 ghost use Rattle.std.specs.Prelude.{◌≡◌};
 ghost use Rattle.explanations.specs.Sentences as sentences;
 
 use refusals::Refusal;
 
 // A text of at most 192 bytes, with zeros behind it.
-#[derive(Drop)]
+#[derive(Clone, Copy)]
 pub struct Sentence {
     pub text: [u8; 192],
     pub length: usize,

@@ -14,6 +14,7 @@
 // 8), which is 0 on success. Figures are lent as an array of numbers. A state is lent as an array of bytes, which crate
 // states reads and writes. The contracts cite the operations' own definitions; specs/Lent says what is left in lent
 // memory, and crate calls' specs/Calls what is left of a lent state; what lists of calls come to is proved there.
+#![tactic(auto)]
 mod derivation;
 mod dictionaries;
 mod encryption;

@@ -17,7 +17,7 @@ use refusals::{Refusal, Written};
 use states::opener_state;
 
 // The figures of a KDF, or that its number is not listed.
-#[derive(Drop)]
+#[derive(Clone, Copy)]
 enum Chosen {
     Figures(Figures),
     Unlisted,

@@ -6,6 +6,7 @@
 // long a value may be) comes as arguments. The contracts cite specs/Fields, and specs/Answers for what an answer says.
 // Values are told by their places, and nothing is copied. Refusals: 2, 7, 6, 5 and 2, in this order. `put` writes a
 // field.
+#![tactic(auto)]
 ghost use Rattle.std.specs.Prelude.{◌≡◌, ◌+◌, ◌≤◌, length};
 ghost use Rattle.words.specs.Endian.{le};
 ghost use Rattle.slices.specs.Over.{put_at};
@@ -17,14 +18,14 @@ use refusals::Refusal;
 use words::le::Size;
 
 // A stretch of a file or a payload.
-#[derive(Drop)]
+#[derive(Clone, Copy)]
 pub struct Place {
     pub start: usize,
     pub length: usize,
 }
 
 // How many bytes the value of a field may have.
-#[derive(Drop)]
+#[derive(Clone, Copy)]
 pub enum SizeRule {
     Any,
     Exactly(u32),
@@ -32,7 +33,7 @@ pub enum SizeRule {
 }
 
 // The field at a place: its ID and its value's place, or why it is refused.
-#[derive(Drop)]
+#[derive(Clone, Copy)]
 pub enum Field {
     At(u8, Place),
     Refused(Refusal),

@@ -5,6 +5,7 @@
 // `check` makes the writer's checks of the figures, `write` lays the header, `header_len` tells its length beforehand.
 // The contracts cite specs/Written, and specs/Answers for what an answer says. Refusals: 4, 9, 5, 11 and 20 of AES-KDF
 // or 22 of Argon2, then 10 or 6.
+#![tactic(auto)]
 ghost use Rattle.std.specs.Prelude.{◌≡◌, [], ◌∷◌, ◌≤◌, length, take};
 ghost use Rattle.slices.specs.Over.{laid, put_at};
 ghost use Rattle.header_writer.specs.Written as written;
@@ -16,7 +17,7 @@ use kdf_dictionary::writer::Figures;
 use refusals::Refusal;
 
 // The cipher of figures that may be written, or why they may not.
-#[derive(Drop)]
+#[derive(Clone, Copy)]
 pub enum Checked {
     As(Cipher),
     Refused(Refusal),

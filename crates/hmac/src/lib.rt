@@ -4,6 +4,7 @@
 // The contracts cite specs/Tagging. proofs/Parts has the theorem: a finish after any feeds is RFC 2104's tag of the
 // accepted parts joined. Refusals: a key over a message's limit, with a state that refuses every feed; a feed that
 // would take the message, without the key block, past it, with the state as it was.
+#![tactic(auto)]
 ghost use Rattle.std.specs.Prelude.{◌≡◌, ◌≤◌, length};
 ghost use Rattle.refusals.specs.Limits.{message_limit};
 ghost use Rattle.hmac.specs.Rfc2104 as rfc2104;
@@ -13,21 +14,21 @@ use refusals::{Outcome, Refusal};
 use sha256::Sha256;
 
 // A tag under way: the inner hash, and the outer hash after its key block.
-#[derive(Drop)]
+#[derive(Clone, Copy)]
 pub struct Hmac {
     pub inner: Sha256,
     pub outer: Sha256,
 }
 
 // The answer of a start or a feed, and the next state.
-#[derive(Drop)]
+#[derive(Clone, Copy)]
 pub struct Keyed {
     pub outcome: Outcome,
     pub next: Hmac,
 }
 
 // The answer for a whole message: zeros where it or the key is refused.
-#[derive(Drop)]
+#[derive(Clone, Copy)]
 pub struct Tagged {
     pub outcome: Outcome,
     pub tag: [u8; 32],

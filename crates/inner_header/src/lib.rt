@@ -7,6 +7,7 @@
 // fields. Values are told by their places in the payload, and nothing is copied. Fields may come in any order.
 // Refusals: 1; of each field 2, 7, 6, 5, 2; 8, 9; and 8 for an attachment index past the last. Each operation walks
 // over the fields once.
+#![tactic(auto)]
 ghost use Rattle.std.specs.Prelude.{◌≡◌, ◌<◌, length};
 ghost use Rattle.inner_header.specs.InnerHeader as kdbx4;
 ghost use Rattle.inner_header.specs.Answers as answers;
@@ -19,7 +20,7 @@ pub mod writer;
 
 // What an accepted inner header says: the algorithm, 2 or 3; the key's place; how many attachments there are; where the
 // document starts.
-#[derive(Drop)]
+#[derive(Clone, Copy)]
 pub struct Inner {
     pub algorithm: u32,
     pub key: Place,
@@ -28,14 +29,14 @@ pub struct Inner {
 }
 
 // The inner header of a payload, or why it is refused.
-#[derive(Drop)]
+#[derive(Clone, Copy)]
 pub enum Read {
     Header(Inner),
     Refused(Refusal),
 }
 
 // An attachment: its flags, and the place of its content, without the flags byte.
-#[derive(Drop)]
+#[derive(Clone, Copy)]
 pub enum Attachment {
     At(u8, Place),
     Refused(Refusal),
@@ -114,7 +115,7 @@ impl Attachment {
 
 // What is kept of the fields that were met. An absent field has the start 0, where no value stands; so has the
 // attachment that is asked for, before it is met.
-#[derive(Drop)]
+#[derive(Clone, Copy)]
 struct Tally {
     algorithm: Place,
     key: Place,
@@ -123,7 +124,7 @@ struct Tally {
 }
 
 // All fields up to the end field, and where the document starts.
-#[derive(Drop)]
+#[derive(Clone, Copy)]
 enum Counted {
     Ended(Tally, usize),
     Refused(Refusal),

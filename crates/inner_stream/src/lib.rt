@@ -6,6 +6,7 @@
 // key, or a position and a length together, over 4,194,304; 17. A start gives 9, then 1 for the key; a stretch of a
 // state 19 where its start was refused or no call could have left its position, then 1, 17. Nothing is written before
 // all is settled, and a refused stretch leaves the state as it was. A stretch makes its own blocks and no others.
+#![tactic(auto)]
 ghost use Rattle.std.specs.Prelude.{◌≡◌, true, ◌+◌, ◌^◌, ◌≤◌, ◌<◌, length, take, drop};
 ghost use Rattle.refusals.specs.Limits.{message_limit};
 ghost use Rattle.refusals.specs.declared.Written.TheVariants as written;
@@ -22,7 +23,7 @@ use salsa20::Salsa20;
 pub const SALSA20_NONCE: [u8; 8] = [0xe8, 0x30, 0x09, 0x4b, 0x97, 0x20, 0x5d, 0x2a];
 
 // The cipher of a stream; none where its start was refused.
-#[derive(Drop)]
+#[derive(Clone, Copy)]
 pub enum StreamCipher {
     Salsa20,
     ChaCha20,
@@ -31,7 +32,7 @@ pub enum StreamCipher {
 
 // A stream under way: the cipher, its key and nonce, and the position of the next byte. Salsa20's nonce is fixed: zeros
 // stand here in its place.
-#[derive(Drop)]
+#[derive(Clone, Copy)]
 pub struct InnerStream {
     pub cipher: StreamCipher,
     pub key: [u8; 32],
@@ -40,14 +41,14 @@ pub struct InnerStream {
 }
 
 // The answer of a start, and the state.
-#[derive(Drop)]
+#[derive(Clone, Copy)]
 pub struct Started {
     pub outcome: Outcome,
     pub next: InnerStream,
 }
 
 // The answer of a stretch, and the state behind it.
-#[derive(Drop)]
+#[derive(Clone, Copy)]
 pub struct Applied {
     pub written: Written,
     pub next: InnerStream,

@@ -3,6 +3,7 @@
 //
 // The contracts cite specs/KdfDictionary, and specs/Answers for what an answer says. Refusals: 10 and 6 for the
 // dictionary itself, then for its items 10 and 9 of the identifier; of AES-KDF 10, 11 and 20; of Argon2 10, 9 and 22.
+#![tactic(auto)]
 ghost use Rattle.std.specs.Prelude.{◌≡◌, ◌+◌, ◌^◌, ◌<◌, ◌≤◌, length};
 ghost use Rattle.kdf_dictionary.specs.KdfDictionary as kdbx4;
 ghost use Rattle.kdf_dictionary.specs.Answers as answers;
@@ -29,14 +30,14 @@ pub(crate) const ARGON2ID: [u8; 16] = [
 ];
 
 // AES-KDF with its figures: the place of its seed in the file, and the rounds.
-#[derive(Drop)]
+#[derive(Clone, Copy)]
 pub struct AesKdf {
     pub seed: Place,
     pub rounds: u64,
 }
 
 // Argon2 with its figures: the place of its salt in the file, the passes, the memory in bytes, the lanes.
-#[derive(Drop)]
+#[derive(Clone, Copy)]
 pub struct Argon2 {
     pub salt: Place,
     pub passes: u64,
@@ -45,7 +46,7 @@ pub struct Argon2 {
 }
 
 // A KDF with its figures.
-#[derive(Drop)]
+#[derive(Clone, Copy)]
 pub enum Kdf {
     AesKdf(AesKdf),
     Argon2d(Argon2),
@@ -53,7 +54,7 @@ pub enum Kdf {
 }
 
 // The KDF that is asked for, or why the dictionary is refused.
-#[derive(Drop)]
+#[derive(Clone, Copy)]
 pub enum Reading {
     Asks(Kdf),
     Refused(Refusal),
@@ -120,14 +121,14 @@ impl Reading {
 }
 
 // Which of the two forms of Argon2.
-#[derive(Drop)]
+#[derive(Clone, Copy)]
 pub enum Variant {
     D,
     Id,
 }
 
 // What an identifier is listed as.
-#[derive(Drop)]
+#[derive(Clone, Copy)]
 pub enum Listed {
     AesKdf,
     Argon2(Variant),
@@ -135,7 +136,7 @@ pub enum Listed {
 }
 
 // Where the values of Argon2's items stand in the dictionary. An item that is absent or of another type has the start 0.
-#[derive(Drop)]
+#[derive(Clone, Copy)]
 pub struct Items {
     pub version: Place,
     pub salt: Place,

@@ -9,7 +9,7 @@ ghost use Rattle.kdf_dictionary.specs.Kdf as kdf;
 use crate::{AES_KDF, ARGON2D, ARGON2ID};
 
 // The figures of a KDF that is written. Its seed or salt stands beside them.
-#[derive(Drop)]
+#[derive(Clone, Copy)]
 pub enum Figures {
     AesKdf {
         rounds: u64,

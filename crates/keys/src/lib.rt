@@ -4,6 +4,7 @@
 // The contracts cite specs/Kdbx4Keys. A credential is a slice with a flag that says whether it was given: an empty
 // password is a part of the key, an absent one is not. Refusals, in order: 1 for a password or key file over its limit;
 // 18 for no credential, a pre-hash that is not 32 bytes, or one that is given with another credential.
+#![tactic(auto)]
 ghost use Rattle.std.specs.Prelude.{◌≡◌, false, not, ◌++◌, ◌≤◌, length};
 ghost use Rattle.refusals.specs.Limits.{message_limit, password_limit, key_file_limit};
 ghost use Rattle.fips180.specs.Fips180 as fips180;
@@ -15,7 +16,7 @@ use sha256::Sha256;
 use sha512::Sha512;
 
 // The composite key: zeros where it is refused.
-#[derive(Drop)]
+#[derive(Clone, Copy)]
 pub struct Composed {
     pub outcome: Outcome,
     pub key: [u8; 32],

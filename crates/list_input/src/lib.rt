@@ -4,6 +4,7 @@
 // standard output, each as a line of upper-case hexadecimal; or one line, R and the refusal's number with its place.
 // The text is that of `listing::list`. Of what is read and written nothing is promised but that each function is safe
 // and ends: the output of each program is compared.
+#![tactic(auto)]
 ghost use Rattle.std.specs.Prelude.{◌≡◌, length};
 
 use libc::{STDIN_FILENO, STDOUT_FILENO};

@@ -11,6 +11,7 @@
 // Argon2's memory is on the stack. A vault that needs no more than 4 MiB opens on the usual stack of 8 MiB; one that
 // needs more opens where the stack may have 80 MiB (examples/open.sh asks for that). Where the stack may not have as
 // much as the memory asks for, the vault is refused with 17.
+#![tactic(auto)]
 use libc::{STDERR_FILENO, STDIN_FILENO, STDOUT_FILENO};
 use unlocking::input::Input;
 use unlocking::{Unlocked, input, stack};

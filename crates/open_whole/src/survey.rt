@@ -6,7 +6,7 @@ use block_stream::Block;
 use refusals::Refusal;
 
 // What the blocks are found to be: so many bytes of ciphertext in all, or refused.
-#[derive(Drop)]
+#[derive(Clone, Copy)]
 pub enum Surveyed {
     Text(usize),
     Refused(Refusal),

@@ -12,7 +12,7 @@ use aes::RoundKeys;
 use opening::Keys;
 
 // What a block leaves behind: the ciphertext piece before the held bytes, and the held bytes.
-#[derive(Drop)]
+#[derive(Clone, Copy)]
 pub struct Carried {
     pub prev: [u8; 16],
     pub held: [u8; 16],

@@ -3,13 +3,14 @@
 //
 // The types of the openers' states and answers stand here; the code is in the crates opener and open_whole. specs/ has
 // the definitions that its contracts cite, and Agreement the claim of demand 3; proofs/Theorem proves it.
+#![tactic(auto)]
 use aes::RoundKeys;
 use ciphers::Cipher;
 use refusals::{Outcome, Written};
 
 // What T and a header give: AES-256 has round keys, ChaCha20 its key, and what the other one would need is zero.
 // ChaCha20's nonce is the first twelve bytes.
-#[derive(Drop)]
+#[derive(Clone, Copy)]
 pub struct Keys {
     pub cipher: Cipher,
     pub key: [u8; 32],
@@ -19,7 +20,7 @@ pub struct Keys {
 }
 
 // Whether a state takes steps, is closed by a refusal, or has ended.
-#[derive(Drop)]
+#[derive(Clone, Copy)]
 pub enum Phase {
     Open,
     Closed,
@@ -28,7 +29,7 @@ pub enum Phase {
 
 // An opening block by block: the number and the place of the next block, how many bytes of ciphertext were taken, the
 // ciphertext piece before the held bytes, and the held bytes. How many are held follows from `taken`.
-#[derive(Drop)]
+#[derive(Clone, Copy)]
 pub struct Opener {
     pub phase: Phase,
     pub number: u64,
@@ -40,14 +41,14 @@ pub struct Opener {
 }
 
 // A start's answer, and the state: closed where it is refused.
-#[derive(Drop)]
+#[derive(Clone, Copy)]
 pub struct Started {
     pub outcome: Outcome,
     pub next: Opener,
 }
 
 // A step's answer, and the next state.
-#[derive(Drop)]
+#[derive(Clone, Copy)]
 pub struct Stepped {
     pub answer: Written,
     pub next: Opener,

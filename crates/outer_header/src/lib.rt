@@ -5,6 +5,7 @@
 // The contracts cite specs/Kdbx4Header, and specs/Answers for what an answer says. Values are told by their places in
 // the file, and nothing is copied. Refusals: 1 to 11, 20 and 22, in the order of documents 01 and 02; fields may come
 // in any order.
+#![tactic(auto)]
 ghost use Rattle.std.specs.Prelude.{◌≡◌};
 ghost use Rattle.outer_header.specs.Kdbx4Header as kdbx4;
 ghost use Rattle.outer_header.specs.Answers as answers;
@@ -19,7 +20,7 @@ use walk::{Fields, Walked};
 pub mod walk;
 
 // What an accepted header says. A custom dictionary that is absent has the start 0.
-#[derive(Drop)]
+#[derive(Clone, Copy)]
 pub struct Header {
     pub minor: u8,
     pub cipher: Cipher,
@@ -32,7 +33,7 @@ pub struct Header {
 }
 
 // The header of a file, or why it is refused.
-#[derive(Drop)]
+#[derive(Clone, Copy)]
 pub enum Reading {
     Header(Header),
     Refused(Refusal),

@@ -6,7 +6,7 @@ use fields::{Field, Place, SizeRule};
 use refusals::Refusal;
 
 // The places of the fields' values. An absent field has the start 0, where no value stands.
-#[derive(Drop)]
+#[derive(Clone, Copy)]
 pub struct Fields {
     pub cipher: Place,
     pub compression: Place,
@@ -17,7 +17,7 @@ pub struct Fields {
 }
 
 // All fields up to the end field, and where the header ends.
-#[derive(Drop)]
+#[derive(Clone, Copy)]
 pub enum Walked {
     Ended(Fields, usize),
     Refused(Refusal),

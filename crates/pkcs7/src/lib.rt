@@ -3,6 +3,7 @@
 // A payload gets 1 to 16 bytes behind it, each holding their number, and a whole piece where it fills its last one.
 // The contracts cite specs/Pkcs7. The check looks at every byte of the last piece, whichever of them are wrong; what it
 // says in document 01's numbers is in specs/Answers. Refusal: 16.
+#![tactic(auto)]
 ghost use Rattle.std.specs.Prelude.{◌≡◌, [], ◌∷◌, ◌<◌};
 ghost use Rattle.pkcs7.specs.Pkcs7 as pkcs7;
 ghost use Rattle.pkcs7.specs.Answer.{answer, padded, wrong_bits};
@@ -11,7 +12,7 @@ ghost use Rattle.pkcs7.specs.Answers as answers;
 use refusals::Refusal;
 
 // What the check of a last piece finds: how many bytes pad it, or that its padding is wrong.
-#[derive(Drop)]
+#[derive(Clone, Copy)]
 pub enum Padding {
     Of(u8),
     Wrong,

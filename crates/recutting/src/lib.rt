@@ -2,3 +2,4 @@
 // positive sizes that add up to it, behind the file's own header, hash and tag, is accepted with the same payload by
 // both openers. There is no code here: specs/ has the claim, proofs/ the theorem, over the definitions that the
 // contracts of `vault::open`, `vault::start` and `opener::step` cite.
+#![tactic(auto)]

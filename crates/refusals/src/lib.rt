@@ -4,6 +4,7 @@
 //
 // An operation answers an `Outcome`, or an enum of its own with a case for a `Refusal`; what number a refusal has is
 // said here alone. The contracts cite specs/Numbers and specs/Limits.
+#![tactic(auto)]
 ghost use Rattle.std.specs.Prelude.{◌≡◌};
 ghost use Rattle.refusals.specs.Numbers as numbers;
 
@@ -11,7 +12,7 @@ pub mod limits;
 
 // Why an operation refuses, in the order of the numbers. 2 to 11, 20 and 22 have the place of the fault, counted from
 // the front of what a reader was handed; operations other than readers put 0 there.
-#[derive(Drop)]
+#[derive(Clone, Copy)]
 pub enum Refusal {
     // 1: an input, file to be written or message is over its limit
     TooLong,
@@ -58,14 +59,14 @@ pub enum Refusal {
 }
 
 // The answer of an operation that has nothing else to say.
-#[derive(Drop)]
+#[derive(Clone, Copy)]
 pub enum Outcome {
     Accepted,
     Refused(Refusal),
 }
 
 // The answer of an operation that writes into a lent slice: how many bytes it wrote, or why it wrote none.
-#[derive(Drop)]
+#[derive(Clone, Copy)]
 pub enum Written {
     Wrote(usize),
     Refused(Refusal),

@@ -14,7 +14,7 @@ use words::le::u32_at;
 use words::plus32;
 
 // Four words of a state.
-#[derive(Drop)]
+#[derive(Clone, Copy)]
 pub(crate) struct Four {
     pub y0: u32,
     pub y1: u32,

@@ -4,6 +4,7 @@
 // `Salsa20::apply` starts at any byte of the stream, so that a stretch goes on where the last one ended. Its contract
 // cites the crate stream's `apply` over the specification's block function. No index depends on the key; of branches see
 // docs/PROMISES.md, "Not claimed".
+#![tactic(auto)]
 ghost use Rattle.std.specs.Prelude.{◌≡◌};
 ghost use Rattle.stream.specs.Stream as stream;
 ghost use Rattle.salsa20.specs.Salsa20 as salsa20;
@@ -11,7 +12,7 @@ ghost use Rattle.salsa20.specs.Salsa20 as salsa20;
 mod block;
 
 // The cipher, for the operation that is its own.
-#[derive(Drop)]
+#[derive(Clone, Copy)]
 pub struct Salsa20;
 
 impl Salsa20 {

@@ -3,6 +3,7 @@
 // The contracts cite fips180's Hashing. proofs/Parts has the theorem: a finish after any feeds is the standard's hash of
 // the accepted parts joined. Refusal: a feed that would take the message past its limit, with the state as it was.
 // Every value of the struct is a state; how many bytes of the buffer are pending follows from the total.
+#![tactic(auto)]
 ghost use Rattle.std.specs.Prelude.{◌≡◌, ◌+◌, ◌<◌, ◌^◌, length};
 ghost use Rattle.fips180.specs.Fips180 as fips180;
 ghost use Rattle.sha256.specs.State as state;
@@ -14,7 +15,7 @@ mod rounds;
 mod tables;
 
 // A hash under way: the chaining words, the bytes that are no whole block yet, and how many bytes came in all.
-#[derive(Drop)]
+#[derive(Clone, Copy)]
 pub struct Sha256 {
     pub chain: [u32; 8],
     pub buffer: [u8; 64],
@@ -22,14 +23,14 @@ pub struct Sha256 {
 }
 
 // A feed's answer, and the next state.
-#[derive(Drop)]
+#[derive(Clone, Copy)]
 pub struct Fed {
     pub outcome: Outcome,
     pub next: Sha256,
 }
 
 // The answer for a whole message: zeros where it is refused.
-#[derive(Drop)]
+#[derive(Clone, Copy)]
 pub struct Hashed {
     pub outcome: Outcome,
     pub digest: [u8; 32],

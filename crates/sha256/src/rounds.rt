@@ -70,7 +70,7 @@ pub(crate) fn next_word(w2: u32, w7: u32, w15: u32, w16: u32) -> u32
 }
 
 // The eight working variables (step 2).
-#[derive(Drop)]
+#[derive(Clone, Copy)]
 pub struct Working {
     pub a: u32,
     pub b: u32,

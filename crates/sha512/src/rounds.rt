@@ -70,7 +70,7 @@ pub(crate) fn next_word(w2: u64, w7: u64, w15: u64, w16: u64) -> u64
 }
 
 // The eight working variables (step 2).
-#[derive(Drop)]
+#[derive(Clone, Copy)]
 pub struct Working {
     pub a: u64,
     pub b: u64,

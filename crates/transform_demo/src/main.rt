@@ -2,6 +2,7 @@
 // is done after each step, and at the end the transformed key T, of figures by rule.
 //
 // tools/transform_demo.py writes the stored stdout, with T by OpenSSL.
+#![tactic(auto)]
 use aes_kdf::Transformation;
 use libc::STDOUT_FILENO;
 use refusals::limits::ROUNDS_LIMIT;

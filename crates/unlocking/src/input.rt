@@ -4,21 +4,21 @@
 ghost use Rattle.std.specs.Prelude.{◌≡◌, length};
 
 // How many bytes were read, or that the file cannot be opened.
-#[derive(Drop)]
+#[derive(Clone, Copy)]
 pub enum Input {
     Bytes(usize),
     NotOpened,
 }
 
 // A line's length without its line feed, and whether there was one: an empty line is one, an input of no bytes is not.
-#[derive(Drop)]
+#[derive(Clone, Copy)]
 pub struct Line {
     pub length: usize,
     pub given: bool,
 }
 
 // A byte of an input, or its end.
-#[derive(Drop)]
+#[derive(Clone, Copy)]
 enum Next {
     Byte(u8),
     End,

@@ -8,6 +8,7 @@
 // limit; those of the composite key (18); of the outer header; of the key (17 for fewer words lent than `words_needed`
 // tells); of the start and the steps; of the inner header. What accepted steps wrote stays. Of the lent words, those
 // that Argon2 used are zeros; all others stay.
+#![tactic(auto)]
 ghost use Rattle.std.specs.Prelude.{◌≡◌, not, length};
 ghost use Rattle.refusals.specs.Limits.{program_limit};
 ghost use Rattle.slices.specs.Over.{over};
@@ -30,7 +31,7 @@ pub mod stack;
 
 // Where the document stands in the output, or why there is none: a refusal of the inner header has its place in the
 // payload, any other in the file.
-#[derive(Drop)]
+#[derive(Clone, Copy)]
 pub enum Unlocked {
     Document(usize, usize),
     Refused(Refusal),

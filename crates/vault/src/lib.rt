@@ -6,6 +6,7 @@
 // `start` and `open` make the same checks up to the header's tag; a step is opener's `step`. The contracts cite
 // specs/Vault. Refusals: the header's 1 to 11, 20 and 22, then 2, 12 and 13; of the whole opening also those of the
 // blocks, and 17 last.
+#![tactic(auto)]
 ghost use Rattle.std.specs.Prelude.{◌≡◌, ◌+◌, ◌≤◌, length};
 ghost use Rattle.refusals.specs.Limits.{file_limit};
 ghost use Rattle.slices.specs.Over.{over};
@@ -24,7 +25,7 @@ use refusals::{Outcome, Refusal, Written};
 
 // The checks up to the header's tag: their outcome, and, where it is accepted, the keys and the place of the first
 // block.
-#[derive(Drop)]
+#[derive(Clone, Copy)]
 struct Checked {
     pub outcome: Outcome,
     pub keys: Keys,

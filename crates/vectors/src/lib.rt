@@ -5,6 +5,7 @@
 // by tools/PROGRAM.py, which has the same rules and computes each result with an independent implementation. A program
 // whose cases are data has them in its stored stdin, which the same script writes; `table` reads them. Of what is
 // filled and printed nothing is promised but that each function is safe and ends: the output is compared.
+#![tactic(auto)]
 ghost use Rattle.std.specs.Prelude.{◌≡◌, ◌<◌, min, length, take, drop};
 
 use libc::STDOUT_FILENO;

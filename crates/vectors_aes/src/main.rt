@@ -7,6 +7,7 @@
 // `encrypt`, a message in one call; `decrypt`, a message in parts of one to five blocks, each behind a run that is too
 // short for a block; `-next`, the ciphertext block that what follows is chained to; `back`, the message, encrypted in
 // parts and decrypted in one call. tools/vectors_aes.py writes the stored stdout with OpenSSL.
+#![tactic(auto)]
 mod blocks;
 mod examples;
 mod runs;

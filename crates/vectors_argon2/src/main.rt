@@ -6,6 +6,7 @@
 // length. Standard output has two rows for each: `function name length number tag` (the crate `vectors`), and `memory
 // name zeros kept`: how many lent words are zeros at the front, and how many at the end hold what they held before.
 // The rows of `long-message` stand behind those of the lines. tools/vectors_argon2.py writes both, with libargon2.
+#![tactic(auto)]
 ghost use Rattle.std.specs.Prelude.{◌≡◌, length};
 
 use libc::STDIN_FILENO;

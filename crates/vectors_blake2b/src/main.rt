@@ -6,6 +6,7 @@
 // with digests of 64 bytes; `digest`, a digest of each length; `over`, a feed that would pass the limit; `limit`, up to the
 // limit; `past` and `empty`, one byte more there and none. Of `argon2-h`: `fill`, a slice filled with H' of its length.
 // tools/vectors_blake2b.py writes the stored stdout with Python's hashlib.
+#![tactic(auto)]
 mod on_blake2b;
 mod on_long;
 

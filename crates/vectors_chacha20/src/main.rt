@@ -7,6 +7,7 @@
 // `twice`, the message back, the stream applied from there to the whole and then in parts; `at_p` and `atP-parts`, a
 // message at position P, of which the last two run over the end of the counter. tools/vectors_chacha20.py writes the
 // stored stdout with OpenSSL.
+#![tactic(auto)]
 mod examples;
 mod runs;
 

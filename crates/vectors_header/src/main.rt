@@ -5,6 +5,7 @@
 // zeros follow; or its name, a dictionary, the dictionary's length, and a name in it. Standard output has for each case
 // its name and what `listing::list` writes, or what `dictionary::lookup` tells. tools/vectors_header.py writes both, by
 // a reader of its own.
+#![tactic(auto)]
 ghost use Rattle.std.specs.Prelude.{◌≡◌, length};
 
 use libc::{STDIN_FILENO, STDOUT_FILENO};

@@ -5,6 +5,7 @@
 // in parts with an empty feed before each; `over`, a feed that would pass the limit; `limit`, up to the limit; `past`
 // and `empty`, one byte more there and none. tools/vectors_hmac.py writes the stored stdout with Python's hmac, that is
 // with OpenSSL.
+#![tactic(auto)]
 ghost use Rattle.std.specs.Prelude.{◌<◌};
 
 use hmac::{Hmac, Keyed};

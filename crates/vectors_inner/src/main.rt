@@ -9,6 +9,7 @@
 // document room`. The rows of `long`, of 4,194,305 bytes, stand behind those of the lines. A payload at its limit,
 // 16,777,216 bytes, and one over it do not fit the usual stack: tests/differential runs these over the static library.
 // tools/vectors_inner.py writes stdin and stdout, with readings and hashes of its own.
+#![tactic(auto)]
 use libc::STDIN_FILENO;
 use vectors::table::field;
 

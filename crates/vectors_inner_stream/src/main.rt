@@ -21,6 +21,7 @@
 //   past              at a position that no call leaves
 //   closed            after a refused start
 // tools/vectors_inner_stream.py writes the stored stdout, with libsodium and OpenSSL.
+#![tactic(auto)]
 mod carried;
 mod runs;
 

@@ -5,6 +5,7 @@
 // of the rounds, or 19 where it is asked for too early. The forms: a vault's name; `by-N`, 100,000 rounds in steps of
 // N; `random`, pseudo-random figures with up to 2,000 rounds; `rounds`, figures by rule. Standard input has a line for
 // each vault: its name, composite key, KDF seed and rounds. tools/vectors_kdf.py writes stdin and stdout, with OpenSSL.
+#![tactic(auto)]
 use libc::STDIN_FILENO;
 
 mod cases;

@@ -6,6 +6,7 @@
 // vault's name or what is given. Standard input has a line for each vault: its name, password, key file, master seed
 // and transformed key, which is absent where the vault has none within the limits. tools/vectors_keys.py writes stdin
 // and stdout, with Python's hashlib, that is with OpenSSL.
+#![tactic(auto)]
 use libc::STDIN_FILENO;
 
 mod credentials;

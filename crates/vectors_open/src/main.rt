@@ -5,6 +5,7 @@
 // digits` (the crate `vectors`), with SHA-256 of the document; one that is refused its name and the line that a
 // technician sees. Behind them stands the line of every refusal, in the order of the numbers: the sentences of
 // docs/REFUSALS.md. 524,288 words of memory are lent for Argon2. tools/vectors_open.py writes stdin, data and stdout.
+#![tactic(auto)]
 use libc::{STDIN_FILENO, STDOUT_FILENO};
 use refusals::Refusal;
 use unlocking::input::Input;

@@ -7,6 +7,7 @@
 // length; `changed`, one with a bit of a byte of its padding changed, the lowest or the highest; `same`, every byte 16
 // times; `last`, a piece of other bytes with every byte at its end. tools/vectors_pkcs7.py writes the stored stdout
 // with the Python package cryptography.
+#![tactic(auto)]
 mod checked;
 mod written;
 

@@ -6,6 +6,7 @@
 // stretch starts at position P; `ironclad-…` and `cryptopp-…`, vectors of those libraries, the latter over the end of
 // the counter's first word; `rule-atP`, a key and a nonce by rule. tools/vectors_salsa20.py writes stdin and stdout
 // from the published files, of which libsodium and nettle computed every byte alike.
+#![tactic(auto)]
 use libc::STDIN_FILENO;
 use salsa20::Salsa20;
 use vectors::table::{array, bytes, field, number};

@@ -4,6 +4,7 @@
 // call; `bytes`, fed byte by byte; `parts`, fed in parts whose lengths change, in both with an empty feed before each;
 // `over`, a feed that would pass the limit; `limit`, up to the limit; `past` and `empty`, one byte more there and none.
 // tools/vectors_sha2.py writes the stored stdout with Python's hashlib, that is with OpenSSL.
+#![tactic(auto)]
 mod on_sha256;
 mod on_sha512;
 

@@ -18,6 +18,7 @@
 // A file at its limit, 16,777,216 bytes, and one over it do not fit the usual stack: tests/differential runs these over
 // the static library.
 // tools/vectors_vault.py writes stdin and stdout, by an opener of its own.
+#![tactic(auto)]
 use libc::STDIN_FILENO;
 use vectors::table::field;
 

@@ -9,7 +9,7 @@ use sha256::Sha256;
 
 // The steps so far: how many, the last one's number, how many bytes were handed over, those bytes, what was answered,
 // and the state.
-#[derive(Drop)]
+#[derive(Clone, Copy)]
 struct Run {
     pub calls: usize,
     pub number: u8,

@@ -9,6 +9,7 @@
 // is what is lent, of an output of 65,536 bytes, or of a large one of 2,162,688 where it is more. A payload at its
 // limit, 16,777,216 bytes, and one over it do not fit the usual stack, nor does a file: tests/differential runs these
 // over the static library. tools/vectors_writer.py writes stdin and stdout, by a writer of its own.
+#![tactic(auto)]
 ghost use Rattle.std.specs.Prelude.{◌≡◌, length};
 
 use libc::STDIN_FILENO;

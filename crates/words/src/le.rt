@@ -7,7 +7,7 @@ ghost use Rattle.words.specs.Answers as answers;
 use crate::byte_at;
 
 // What a size field (Int32) holds.
-#[derive(Drop)]
+#[derive(Clone, Copy)]
 pub enum Size {
     Of(u32),
     Negative,

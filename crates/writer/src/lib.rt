@@ -6,6 +6,7 @@
 // cites specs/Written. Refusals: 4, 9, 5, 11 and 20 of AES-KDF or 22 of Argon2, then 10 or 6, then 1 and 17, in this
 // order. A KDF is one of three with its own figures (document 02, Item 6). The nonce, the seeds and the salt are the
 // caller's: nothing here makes them, and the payload is not looked at. AES-256's table look-ups are not constant-time.
+#![tactic(auto)]
 ghost use Rattle.std.specs.Prelude.{◌≡◌, ◌+◌, ◌≤◌, length, take};
 ghost use Rattle.refusals.specs.Limits.{file_limit, payload_limit, message_limit};
 ghost use Rattle.slices.specs.Over.{over};

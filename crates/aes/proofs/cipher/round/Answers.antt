@@ -1,0 +1,10 @@
+-- `aes::cipher::round` meets its contract. Assumes nothing.
+use Rattle.aes.proofs.Laws.Rounds.{round_by_is}
+use Rattle.aes.proofs.cipher.round.Goals as goal
+
+pub returns : goal.returns
+returns c =
+    let a = c.args in
+    round_by_is a.te.now a.w.now a.i a.s.a a.s.b a.s.c a.s.d
+    c.column.result c.column-2.result c.column-3.result c.column-4.result
+    c.column.ensures c.column-2.ensures c.column-3.ensures c.column-4.ensures

@@ -1,0 +1,15 @@
+-- `argon2::clear` meets its contract. The invariant: i zeros stand over the front. Assumes nothing.
+use mathlib.Core.Path.{◌≡◌}
+use Prim.Native.Nat.{◌-◌, ◌≤◌}
+use lib.ListN.{length, take}
+use Rattle.slices.specs.Over.{over}
+use Rattle.slices.proofs.Laws.Zeros.{zeros}
+use Rattle.argon2.proofs.clear.Given as goal
+
+abbrev pub invariant-loop-i : goal.invariant-loop-i
+invariant-loop-i l =
+    (l.i ≤ length l.initial.memory)
+    × ((length l.memory ≡ length l.initial.memory) × (l.memory ≡ over (take l.i (zeros (length l.initial.memory))) l.initial.memory))
+
+abbrev pub decreases-loop-i : goal.decreases-loop-i
+decreases-loop-i l = length l.initial.memory - l.i

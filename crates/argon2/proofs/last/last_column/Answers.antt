@@ -1,0 +1,42 @@
+-- `argon2::last::last_column` meets its contract. The invariant: the last blocks of the lanes before are joined.
+-- Assumes nothing.
+use mathlib.Core.Path.{◌≡◌, refl, ap, ◌∙◌}
+use Prim.Native.Nat.{ℕ}
+use native.Mathlib.Omega.{arith}
+use Rattle.argon2_fill.specs.State.{figures}
+use Rattle.argon2_fill.proofs.Laws.Blocks.{tail-length}
+use Rattle.argon2.specs.Rfc9106.{last_column}
+use Rattle.argon2.proofs.Laws.Last.{column_none, column_more}
+use borrow.Author.Rules.{rules}
+use Rattle.argon2.proofs.last.last_column.Goals as goal
+
+pub loop-i-init : goal.loop-i-init
+loop-i-init c =
+    let a = c.args in
+    (search rules, column_none (figures a.f) a.memory.now)
+
+pub last_start-at-requires : goal.last_start-at-requires
+last_start-at-requires c =
+    (c.requires.fits, (c.loop-i-test.true, c.requires.f_in_bounds))
+
+pub xor_block-d-requires : goal.xor_block-d-requires
+xor_block-d-requires c =
+    let m = c.args.memory.now in
+    tail-length m _ _ c.last_start-at.ensures.1 refl
+
+pub loop-i-preserved : goal.loop-i-preserved
+loop-i-preserved c =
+    let l = c.loop-i in
+    let a = c.args in
+    let t = c.loop-i-test.true in (
+      omega arith,
+      column_more (figures a.f) a.memory.now l.c _ l.i _ _ l.invariant.1
+          c.last_start-at.ensures.0 refl c.xor_block-d.ensures,
+    )
+
+pub returns : goal.returns
+returns c =
+    let l = c.loop-i in
+    let a = c.args in
+    let e : l.i ≡ a.f.lanes = omega arith in
+    l.invariant.1 ∙ ap (λ (n : ℕ). last_column (figures a.f) a.memory.now n) e

@@ -1,0 +1,46 @@
+-- `argon2_hash::fill_longer` meets its contract. The invariant: the first halves of i values stand, v is the next value.
+-- Assumes nothing.
+use mathlib.Core.Path.{◌≡◌, refl, ap, ◌∙◌}
+use Prim.Native.Nat.{ℕ, ◌+◌, ◌-◌, ◌*◌, ◌/◌}
+use native.Mathlib.Numerals.{add-one}
+use native.Mathlib.Omega.{arith}
+use lib.ListN.{length, take}
+use Rattle.slices.specs.Over.{laid}
+use Rattle.slices.proofs.Laws.Put.{length-put_at}
+use Rattle.argon2_hash.specs.LongHash.{value, firsts}
+use Rattle.argon2_hash.proofs.Laws.Long.{value_first, value_more, firsts_none, firsts_more, longer_is}
+use borrow.Author.Rules.{rules}
+use Rattle.argon2_hash.proofs.fill_longer.Goals as goal
+
+pub loop-i-init : goal.loop-i-init
+loop-i-init c =
+    let m = c.args.message.now in
+    let d = c.args.out.now in
+    (refl, value_first (length d) m c.first_value-v.ensures, firsts_none (length d) m d, search rules, omega (arith, c.requires.in_bounds))
+
+pub loop-i-preserved : goal.loop-i-preserved
+loop-i-preserved c =
+    let l = c.loop-i in
+    let m = c.args.message.now in
+    let d = c.args.out.now in
+    let e = c.put.ensures in (
+      ap length e ∙ length-put_at (32 * l.i) (take 32 l.v) l.out ∙ l.invariant.0,
+      value_more (length d) m l.i (l.i + 1) (add-one l.i) l.invariant.1 c.next_value-w.ensures,
+      firsts_more (length d) m d l.i l.invariant.1 l.invariant.2 e,
+      search rules,
+      omega arith,
+    )
+
+pub returns : goal.returns
+returns c =
+    let l = c.loop-i in
+    let m = c.args.message.now in
+    let d = c.args.out.now in
+    let r = (length d - 1) / 32 - 1 in
+    let e : l.i + 1 ≡ r = omega (arith, c.requires.in_bounds) in
+    let f : l.i ≡ r - 1 = omega arith in
+    longer_is (length d) m d r refl c.requires.in_bounds (omega (arith, c.requires.in_bounds))
+    (l.invariant.1 ∙ ap (value (length d) m) f)
+    (firsts_more (length d) m d l.i l.invariant.1 l.invariant.2 c.put-2.ensures
+    ∙ ap (λ (n : ℕ). laid (firsts (length d) m n) d) e)
+    c.next_value-last.ensures c.put-3.ensures

@@ -1,0 +1,7 @@
+-- `blake2b::block::joined` meets its contract. Assumes nothing.
+use Rattle.blake2b.proofs.Laws.Block.{joined_is}
+use borrow.Author.Rules.{rules}
+use Rattle.blake2b.proofs.block.joined.Goals as goal
+
+pub returns : goal.returns
+returns c = joined_is c.args.t1 c.args.t2 (search rules) (search rules)

@@ -1,0 +1,8 @@
+-- `block_stream::Block::place` meets its contract. Assumes nothing.
+use mathlib.Core.Path.{sym, ap, ◌∙◌}
+use Rattle.block_stream.specs.declared.Block.{Block}
+use Rattle.block_stream.specs.Answers.{said}
+use Rattle.block_stream.proofs.Block.place.Goals as goal
+
+pub returns-in-Refused : goal.returns-in-Refused
+returns-in-Refused c = c.place.ensures ∙ ap (λ (a : Block). (said a).place) (sym c.in-Refused.is)

@@ -1,0 +1,79 @@
+-- `dictionary::repeats::judge` meets its contract. Assumes nothing.
+-- The invariant: the judgement from here is the whole one.
+use mathlib.Core.Path.{refl, sym, ◌∙◌}
+use mathlib.Core.List.{[]}
+use Prim.Native.Nat.{ℕ}
+use native.Mathlib.Omega.{arith}
+use lib.ListN.{length, length-replicate}
+use borrow.Author.Rules.{rules}
+use Rattle.dictionary.proofs.Laws.Judge.{judge_past, filled_done, filled_full, full_met}
+use Rattle.dictionary.proofs.repeats.judge.Goals as goal
+
+pub loop-left-init : goal.loop-left-init
+loop-left-init c = (refl, length-replicate {A = ℕ} 4096 0, omega arith, omega arith)
+
+pub slice_bounds-fill-end : goal.slice_bounds-fill-end
+slice_bounds-fill-end c = sym c.loop-left.invariant.1
+
+pub fill-requires : goal.fill-requires
+fill-requires c =
+    record {
+      t_nonzero = omega arith;
+      from_in_bounds = omega arith;
+    }
+
+pub enum_known-o : goal.enum_known-o
+enum_known-o c = search rules
+
+pub returns-in-Done : goal.returns-in-Done
+returns-in-Done c =
+    let l = c.loop-left in
+    let s = c.args.s.now in
+    filled_done s l.at l.stop c.fill.new.1.1.1.0 c.fill.result c.in-Done.o
+    c.fill.ensures c.in-Done.is
+    ∙ l.invariant.0
+
+pub enum_known-held : goal.enum_known-held
+enum_known-held c = search rules
+
+pub slice_bounds-met-end : goal.slice_bounds-met-end
+slice_bounds-met-end c =
+    sym (c.fill.auto.1.1.1.0 ∙ c.loop-left.invariant.1)
+
+pub met-stop-requires : goal.met-stop-requires
+met-stop-requires c =
+    let l = c.loop-left in
+    let s = c.args.s.now in
+    let u =
+    filled_full s l.at l.stop c.fill.new.1.1.1.0 c.fill.result c.in-Full.held c.in-Full.next c.fill.ensures
+    c.in-Full.is in
+    record {
+      n_in_bounds = u.within;
+      base_in_bounds = l.invariant.2;
+      rising = u.rising;
+    }
+
+pub loop-left-preserved : goal.loop-left-preserved
+loop-left-preserved c =
+    let m = c in
+    let h = m in
+    let f = h in
+    let l = f.loop in
+    let s = f.args.s.now in
+    let g = h.held.given in
+    let u =
+    filled_full s l.at l.stop f.fill.new.1.1.1.0 f.fill.result g.0.0 g.0.1.0 f.fill.ensures
+    g.1 in (
+      full_met s l.at l.stop f.fill.new.1.1.1.0 g.0.0 g.0.1.0 u
+          m.met.result m.met.ensures
+          ∙ l.invariant.0,
+      f.fill.auto.1.1.1.0 ∙ l.invariant.1,
+      u.next_le,
+      omega (arith, u.further),
+    )
+
+pub returns : goal.returns
+returns c =
+    let l = c.loop-left in
+    let s = c.args.s.now in
+    sym (judge_past l.stop (length s) s [] l.at (omega arith)) ∙ l.invariant.0

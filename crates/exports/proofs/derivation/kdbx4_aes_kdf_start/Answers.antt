@@ -1,0 +1,14 @@
+-- `exports::derivation::kdbx4_aes_kdf_start` meets its contract. Assumes nothing.
+use mathlib.Core.Path.{ap, ◌∙◌}
+use Rattle.refusals.specs.Numbers.{of_outcome}
+use Rattle.aes_kdf.specs.declared.Started.{Started}
+use Rattle.states.specs.AesKdfState.{packed}
+use Rattle.exports.proofs.derivation.kdbx4_aes_kdf_start.Goals as goal
+
+pub returns : goal.returns
+returns c =
+    let e = c.start-started.ensures in
+    record {
+      value = c.number.ensures ∙ ap (λ (x : Started). of_outcome x.outcome) e;
+      state_after = c.pack.ensures ∙ ap (λ (x : Started). packed x.next) e;
+    }

@@ -1,0 +1,15 @@
+-- `exports::hashes::kdbx4_sha512` meets its contract. Assumes nothing.
+use mathlib.Core.Path.{ap}
+use Rattle.sha512.specs.declared.Hashed.{Hashed}
+use Rattle.exports.proofs.Laws.{answer-accepted, answer-refused}
+use Rattle.exports.proofs.hashes.kdbx4_sha512.Goals as goal
+
+pub returns-in-Accepted : goal.returns-in-Accepted
+returns-in-Accepted c =
+    let e = c.hash-h.ensures in
+    answer-accepted _ (ap (λ (h : Hashed). h.outcome) e) (ap (λ (h : Hashed). h.digest) e) c.in-Accepted.is
+
+pub returns : goal.returns
+returns c =
+    let e = c.hash-h.ensures in
+    answer-refused _ (ap (λ (h : Hashed). h.outcome) e) c.number.ensures c.in_default.is

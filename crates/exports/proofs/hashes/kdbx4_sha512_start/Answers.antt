@@ -1,0 +1,7 @@
+-- `exports::hashes::kdbx4_sha512_start` meets its contract. Assumes nothing.
+use mathlib.Core.Path.{ap, ◌∙◌}
+use Rattle.states.specs.Sha512State.{packed}
+use Rattle.exports.proofs.hashes.kdbx4_sha512_start.Goals as goal
+
+pub returns : goal.returns
+returns c = c.pack.ensures ∙ ap packed c.start.ensures

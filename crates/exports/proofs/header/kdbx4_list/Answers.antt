@@ -1,0 +1,25 @@
+-- `exports::header::kdbx4_list` meets its contract. Assumes nothing.
+use Rattle.exports.proofs.Laws.{answer-wrote, answer_not_written}
+use Rattle.exports.proofs.header.kdbx4_list.Goals as goal
+
+pub returns-in-Wrote : goal.returns-in-Wrote
+returns-in-Wrote c =
+    let e = c.list-answer.ensures in
+    let a = c.args in
+    let x = answer-wrote a.count.now e.0 c.in-Wrote.is in
+    record {
+      value = x.0;
+      out_after = e.1;
+      count_after = x.1;
+    }
+
+pub returns-in-Refused : goal.returns-in-Refused
+returns-in-Refused c =
+    let e = c.list-answer.ensures in
+    let a = c.args in
+    let x = answer_not_written a.count.now e.0 c.number.ensures c.in-Refused.is in
+    record {
+      value = x.0;
+      out_after = e.1;
+      count_after = x.1;
+    }

@@ -1,0 +1,14 @@
+-- `exports::vaults::kdbx4_start` meets its contract. Assumes nothing.
+use mathlib.Core.Path.{ap, ◌∙◌}
+use Rattle.refusals.specs.Numbers.{of_outcome, place_of_outcome}
+use Rattle.states.specs.OpenerState.{packed}
+use Rattle.exports.proofs.vaults.kdbx4_start.Goals as goal
+
+pub returns : goal.returns
+returns c =
+    let e = c.start-s.ensures in
+    record {
+      value = c.number.ensures ∙ ap of_outcome e.0;
+      place_after = c.place.ensures ∙ ap place_of_outcome e.0;
+      state_after = c.pack.ensures ∙ ap packed e.1;
+    }

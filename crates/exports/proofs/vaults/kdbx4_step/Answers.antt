@@ -1,0 +1,79 @@
+-- `exports::vaults::kdbx4_step` meets its contract. Assumes nothing.
+use mathlib.Core.Path.{ap, ◌∙◌}
+use lib.ListN.{length}
+use Rattle.slices.specs.Over.{over}
+use Rattle.opening.specs.declared.Opener.{Opener}
+use Rattle.opening.specs.Steps.{step_of}
+use Rattle.states.specs.OpenerState.{packed}
+use Rattle.exports.proofs.Laws.{answer-wrote, answer_not_written, kept_or-wrote, kept_or_17, kept_or_19, kept_or_next}
+use Rattle.exports.proofs.vaults.kdbx4_step.Goals as goal
+
+pub returns-in-Wrote : goal.returns-in-Wrote
+returns-in-Wrote c =
+    let a = c.args in
+    let f = a.file.now in
+    let d = a.out.now in
+    let u = c.unpack-o.ensures in
+    let e = c.step-s.ensures in
+    let w = e.0 ∙ ap (λ (o : Opener). (step_of f o (length d)).answer.written) u in
+    let b = e.1.1 ∙ ap (λ (o : Opener). over (step_of f o (length d)).answer.bytes d) u in
+    let s = e.1.0 ∙ ap (λ (o : Opener). (step_of f o (length d)).next) u in
+    let x = answer-wrote a.count.now w c.in-Wrote.is in
+    record {
+      value = x.0;
+      state_after = kept_or-wrote _ x.0 (c.pack.ensures ∙ ap packed s);
+      out_after = b;
+      count_after = x.1;
+    }
+
+pub returns-then-number-eq17 : goal.returns-then-number-eq17
+returns-then-number-eq17 c =
+    let a = c.args in
+    let f = a.file.now in
+    let d = a.out.now in
+    let u = c.unpack-o.ensures in
+    let e = c.step-s.ensures in
+    let w = e.0 ∙ ap (λ (o : Opener). (step_of f o (length d)).answer.written) u in
+    let b = e.1.1 ∙ ap (λ (o : Opener). over (step_of f o (length d)).answer.bytes d) u in
+    let x = answer_not_written a.count.now w c.number-number.ensures c.in-Refused.is in
+    record {
+      value = x.0;
+      state_after = kept_or_17 _ x.0 c.if-number-eq17.true;
+      out_after = b;
+      count_after = x.1;
+    }
+
+pub returns-then-number-eq19 : goal.returns-then-number-eq19
+returns-then-number-eq19 c =
+    let a = c.args in
+    let f = a.file.now in
+    let d = a.out.now in
+    let u = c.unpack-o.ensures in
+    let e = c.step-s.ensures in
+    let w = e.0 ∙ ap (λ (o : Opener). (step_of f o (length d)).answer.written) u in
+    let b = e.1.1 ∙ ap (λ (o : Opener). over (step_of f o (length d)).answer.bytes d) u in
+    let x = answer_not_written a.count.now w c.number-number.ensures c.in-Refused.is in
+    record {
+      value = x.0;
+      state_after = kept_or_19 _ x.0 c.if-number-eq19.true;
+      out_after = b;
+      count_after = x.1;
+    }
+
+pub returns-in-Refused : goal.returns-in-Refused
+returns-in-Refused c =
+    let a = c.args in
+    let f = a.file.now in
+    let d = a.out.now in
+    let u = c.unpack-o.ensures in
+    let e = c.step-s.ensures in
+    let w = e.0 ∙ ap (λ (o : Opener). (step_of f o (length d)).answer.written) u in
+    let b = e.1.1 ∙ ap (λ (o : Opener). over (step_of f o (length d)).answer.bytes d) u in
+    let s = e.1.0 ∙ ap (λ (o : Opener). (step_of f o (length d)).next) u in
+    let x = answer_not_written a.count.now w c.number-number.ensures c.in-Refused.is in
+    record {
+      value = x.0;
+      state_after = kept_or_next _ x.0 c.if-number-eq17.false c.if-number-eq19.false (c.pack-in-Refused.ensures ∙ ap packed s);
+      out_after = b;
+      count_after = x.1;
+    }

@@ -1,0 +1,63 @@
+-- `inner_header::writer::check_run` meets its contract. The invariant: the verdict on what is left is that on the
+-- whole. Assumes nothing.
+use mathlib.Core.Path.{◌≡◌, refl, sym, ap, ◌∙◌}
+use mathlib.Core.Bool.{false}
+use Prim.Native.Nat.{ℕ, ◌+◌, ◌-◌}
+use native.Mathlib.Omega.{arith}
+use lib.Dec.{eqb}
+use Rattle.fields.specs.declared.SizeRule.TheVariants.{AtLeast}
+use Rattle.fields.specs.Fields.{field_at}
+use Rattle.inner_header.specs.Writer.{Run, run_at, run_in, run_from, run, verdict}
+use Rattle.inner_header.proofs.Laws.Run.{run_at_stands, run_from_past, run_from_more, verdict_before}
+use borrow.Author.Rules.{rules}
+use Rattle.inner_header.proofs.writer.check_run.Goals as goal
+
+pub loop-left-init : goal.loop-left-init
+unfolding run
+loop-left-init c = refl
+
+pub returns-then-run-at : goal.returns-then-run-at
+unfolding verdict
+returns-then-run-at c =
+    let l = c.loop-left in
+    let s = c.args.run.now in
+    ap (λ (w : Run). verdict w) (sym (run_from_past l.left s l.at c.if-run-at.true)) ∙ l.invariant
+
+pub returns-in-Refused : goal.returns-in-Refused
+unfolding run_at run_in verdict
+returns-in-Refused c =
+    let l = c.loop-left in
+    let s = c.args.run.now in
+    let b = c.byte_at.ensures in
+    let m =
+    run_from_more l.left s l.at c.field_at.result (search rules) (search rules)
+    (c.field_at.ensures.value ∙ ap (λ (n : ℕ). field_at (eqb n 3) false (AtLeast 1) s l.at) b) in
+    rw c.unplaced.ensures (sym (ap (λ (w : Run). verdict w) (rw c.in-Refused.is at m)) ∙ l.invariant)
+
+pub overflow_add-at : goal.overflow_add-at
+unfolding run_at
+overflow_add-at c =
+    let l = c.loop-left in
+    let s = c.args.run.now in
+    let b = c.byte_at.ensures in
+    let w =
+    run_at_stands s l.at c.in-At.field-0 c.in-At.p
+    (sym (ap (λ (n : ℕ). field_at (eqb n 3) false (AtLeast 1) s l.at) b) ∙ sym c.field_at.ensures.value ∙ c.in-At.is) in
+    search rules
+
+pub loop-left-preserved : goal.loop-left-preserved
+unfolding run_at run_in
+loop-left-preserved c =
+    let l = c.loop-left in
+    let s = c.args.run.now in
+    let b = c.byte_at.ensures in
+    let p = c.in-At.p in
+    let m =
+    run_from_more l.left s l.at c.field_at.result (search rules) (search rules)
+    (c.field_at.ensures.value ∙ ap (λ (n : ℕ). field_at (eqb n 3) false (AtLeast 1) s l.at) b) in
+    sym (verdict_before p (run_from (l.left - 1) s (p.start + p.length)))
+    ∙ sym (ap (λ (w : Run). verdict w) (rw c.in-At.is at m)) ∙ l.invariant
+
+pub returns : goal.returns
+unfolding run_from verdict
+returns c = let z : c.loop-left.left ≡ 0 = omega arith in rw z at c.loop-left.invariant

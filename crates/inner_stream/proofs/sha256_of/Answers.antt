@@ -1,0 +1,10 @@
+-- `inner_stream::sha256_of` meets its contract. Assumes nothing.
+use mathlib.Core.Path.{ap, ◌∙◌}
+use Rattle.fips180.specs.Fips180.{sha256}
+use Rattle.fips180.proofs.Laws.Feeds.{hashed-digest}
+use Rattle.sha256.specs.declared.Hashed.{Hashed}
+use Rattle.inner_stream.proofs.sha256_of.Goals as goal
+
+pub returns : goal.returns
+returns c =
+    ap (λ (h : Hashed). h.digest) c.hash.ensures ∙ hashed-digest sha256 c.args.key.now c.requires

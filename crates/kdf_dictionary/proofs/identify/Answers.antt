@@ -1,0 +1,31 @@
+-- `kdf_dictionary::identify` meets its contract. Assumes nothing.
+use mathlib.Core.Path.{sym, ◌∙◌}
+use Rattle.kdf_dictionary.specs.KdfDictionary.{listed_as}
+use Rattle.kdf_dictionary.proofs.identify.Goals as goal
+
+pub returns-then-same : goal.returns-then-same
+unfolding listed_as
+returns-then-same c = rw (sym c.same.ensures ∙ c.if-same.true)
+
+pub returns-then-same-2 : goal.returns-then-same-2
+unfolding listed_as
+returns-then-same-2 c =
+    rw (sym c.same.ensures ∙ c.if-same.false, sym c.same-2.ensures ∙ c.if-same-2.true)
+
+pub returns-then-same-3 : goal.returns-then-same-3
+unfolding listed_as
+returns-then-same-3 c =
+    rw (
+      sym c.same.ensures ∙ c.if-same.false,
+      sym c.same-2.ensures ∙ c.if-same-2.false,
+      sym c.same-3.ensures ∙ c.if-same-3.true,
+    )
+
+pub returns : goal.returns
+unfolding listed_as
+returns c =
+    rw (
+      sym c.same.ensures ∙ c.if-same.false,
+      sym c.same-2.ensures ∙ c.if-same-2.false,
+      sym c.same-3.ensures ∙ c.if-same-3.false,
+    )

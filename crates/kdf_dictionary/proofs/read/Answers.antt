@@ -1,0 +1,48 @@
+-- `kdf_dictionary::read` meets its contract. A part of the file ends within it, so no place in it is beyond a word.
+-- Assumes nothing.
+use Prim.Native.Nat.{◌^◌}
+use lib.ListN.{length}
+use Rattle.dictionary.proofs.Laws.Within.{part_end_lt, broken_lt, repeated_lt}
+use Rattle.kdf_dictionary.specs.KdfDictionary.{kdf_in, kdf_of}
+use Rattle.words.proofs.Laws.Said.{said_too}
+use Rattle.kdf_dictionary.specs.Answers.{said}
+use borrow.Author.Rules.{rules}
+use Rattle.kdf_dictionary.proofs.read.Goals as goal
+
+pub overflow_add-result : goal.overflow_add-result
+overflow_add-result c =
+    let a = c.args in
+    let l = broken_lt a.p.length a.p.start a.s.now c.part-d.result.now c.check.result
+    c.in-Broken.at (2 ^ 64) c.part-d.ensures c.check.ensures.value c.in-Broken.is
+    (search rules) (search rules) in
+    search rules
+
+pub returns-in-Broken : goal.returns-in-Broken
+unfolding kdf_of kdf_in
+returns-in-Broken c =
+    said_too said (rw (← c.part-d.ensures, ← c.check.ensures.value, c.in-Broken.is))
+
+pub overflow_add-result-in-Repeated : goal.overflow_add-result-in-Repeated
+overflow_add-result-in-Repeated c =
+    let a = c.args in
+    let l = repeated_lt a.p.length a.p.start a.s.now c.part-d.result.now c.check.result
+    c.in-Repeated.at (2 ^ 64) c.part-d.ensures c.check.ensures.value c.in-Repeated.is
+    (search rules) (search rules) in
+    search rules
+
+pub returns-in-Repeated : goal.returns-in-Repeated
+unfolding kdf_of kdf_in
+returns-in-Repeated c =
+    said_too said (rw (← c.part-d.ensures, ← c.check.ensures.value, c.in-Repeated.is))
+
+pub uuid_of-requires : goal.uuid_of-requires
+uuid_of-requires c =
+    let a = c.args in
+    rw c.part-d.ensures
+    (part_end_lt a.p.length a.p.start a.s.now (2 ^ 64) (search rules) (search rules))
+
+pub returns-in-Sound : goal.returns-in-Sound
+unfolding kdf_of kdf_in
+returns-in-Sound c =
+    said_too said
+    (rw (← c.part-d.ensures, ← c.check.ensures.value, c.in-Sound.is) c.uuid_of.ensures)

@@ -1,0 +1,9 @@
+-- `refusals::limits::is_within` meets its contract. Assumes nothing.
+use borrow.Author.Tests.{le-leb, lt-leb}
+use Rattle.refusals.proofs.limits.is_within.Goals as goal
+
+pub returns-then-n-least : goal.returns-then-n-least
+returns-then-n-least c = rw (lt-leb _ _ c.if-n-least.true)
+
+pub returns : goal.returns
+returns c = rw (le-leb _ _ c.if-n-least.false)

@@ -1,0 +1,9 @@
+-- `salsa20::block::block` meets its contract. Assumes nothing.
+use Rattle.salsa20.proofs.Laws.Block.{block_is}
+use Rattle.salsa20.proofs.block.block.Goals as goal
+
+pub returns : goal.returns
+returns c =
+    let a = c.args in
+    block_is a.key a.counter a.nonce
+    c.expanded-initial.ensures c.rounds.ensures c.serialize_sum.ensures

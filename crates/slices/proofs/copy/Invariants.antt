@@ -1,0 +1,13 @@
+-- `slices::copy` meets its contract. The invariant: the first i bytes of s stand over the front. Assumes nothing.
+use mathlib.Core.Path.{◌≡◌}
+use Prim.Native.Nat.{◌-◌, ◌≤◌}
+use lib.ListN.{length, take}
+use Rattle.slices.specs.Over.{over}
+use Rattle.slices.proofs.copy.Given as goal
+
+abbrev pub invariant-loop-i : goal.invariant-loop-i
+invariant-loop-i l =
+    (l.i ≤ l.n) × ((length l.out ≡ length l.initial.out) × (l.out ≡ over (take l.i l.s) l.initial.out))
+
+abbrev pub decreases-loop-i : goal.decreases-loop-i
+decreases-loop-i l = l.n - l.i

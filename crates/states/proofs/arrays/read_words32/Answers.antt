@@ -1,0 +1,31 @@
+-- `states::arrays::read_words32` meets its contract. The invariant: the first i words are read. Assumes nothing.
+use mathlib.Core.Path.{refl}
+use native.Mathlib.Omega.{arith}
+use lib.ListN.{length, length-set}
+use Rattle.states.specs.Words.{words_at}
+use Rattle.states.proofs.Laws.Words.{words_at_more, words_at_all}
+use borrow.Author.Rules.{rules}
+use Rattle.states.proofs.arrays.read_words32.Goals as goal
+
+pub loop-i-init : goal.loop-i-init
+unfolding words_at
+loop-i-init c = (search rules, (refl, refl))
+
+pub loop-i-preserved : goal.loop-i-preserved
+loop-i-preserved c =
+    let l = c.loop-i in
+    let a = c.args in (
+      search rules,
+      (
+        simp length-set (search rules),
+        words_at_more 4 a.s.now l.w a.at l.i c.u32_at.result (omega arith) l.invariant.1.1
+            c.u32_at.ensures,
+      ),
+    )
+
+pub returns : goal.returns
+returns c =
+    let l = c.loop-i in
+    let a = c.args in
+    words_at_all 4 a.s.now l.w a.at l.i (length a.w.now) (omega arith) l.invariant.1.0
+    l.invariant.1.1

@@ -1,0 +1,11 @@
+-- `states::sha512_state::unpack` meets its contract. Assumes nothing.
+use Rattle.states.specs.Sha512State.{unpacked}
+use Rattle.states.proofs.sha512_state.unpack.Goals as goal
+
+pub returns : goal.returns
+unfolding unpacked
+returns c =
+    let total = c.u32_at-total.ensures in
+    let buffer = c.bytes128_at-buffer.ensures in
+    let chain = c.read_words64.ensures in
+    cc (total, buffer, chain)

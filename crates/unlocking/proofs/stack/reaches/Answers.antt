@@ -1,0 +1,64 @@
+-- `unlocking::stack::reaches` meets its contract. The invariant: what is left of the text continues the number to the
+-- same. Assumes nothing.
+use mathlib.Core.Path.{refl, sym, ap, ◌∙◌}
+use Prim.Native.Nat.{ℕ}
+use native.Mathlib.Omega.{arith}
+use lib.Dec.{leb}
+use lib.ListN.{get_or, drop}
+use borrow.Author.Tests.{not-true, not-false}
+use Rattle.unlocking.proofs.Laws.Stack.{digit-ge, digit-le, decimal_stop, decimal_more, decimal_none, reached, missed}
+use borrow.Author.Rules.{rules}
+use Rattle.unlocking.proofs.stack.reaches.Goals as goal
+
+pub loop-at-init : goal.loop-at-init
+loop-at-init c = refl
+
+pub returns-then-least-n : goal.returns-then-least-n
+returns-then-least-n c =
+    let a = c.args in
+    reached a.least c.loop-at.n _ (drop c.loop-at.at a.s.now) (search rules) c.loop-at.invariant
+
+pub returns-then-not-is_digit : goal.returns-then-not-is_digit
+returns-then-not-is_digit c =
+    let a = c.args in
+    missed a.least c.loop-at.n _ (search rules)
+    (decimal_stop a.s.now c.loop-at.at c.loop-at.n (search rules)
+    (sym c.is_digit.ensures ∙ not-true _ c.if-not-is_digit.true)
+    ∙ c.loop-at.invariant)
+
+pub overflow_sub-n : goal.overflow_sub-n
+overflow_sub-n c =
+    omega (
+      arith,
+      digit-ge (get_or c.args.s.now c.loop-at.at 0)
+          (sym c.is_digit.ensures ∙ not-false _ c.if-not-is_digit.false),
+    )
+
+pub overflow_cast-n : goal.overflow_cast-n
+overflow_cast-n c =
+    omega (
+      arith,
+      digit-le (get_or c.args.s.now c.loop-at.at 0)
+          (sym c.is_digit.ensures ∙ not-false _ c.if-not-is_digit.false),
+    )
+
+pub overflow_add-n : goal.overflow_add-n
+overflow_add-n c =
+    omega (
+      arith,
+      digit-le (get_or c.args.s.now c.loop-at.at 0)
+          (sym c.is_digit.ensures ∙ not-false _ c.if-not-is_digit.false),
+    )
+
+pub loop-at-preserved : goal.loop-at-preserved
+loop-at-preserved c =
+    let a = c.args in
+    decimal_more a.s.now c.loop-at.at c.loop-at.n (search rules)
+    (sym c.is_digit.ensures ∙ not-false _ c.if-not-is_digit.false)
+    ∙ c.loop-at.invariant
+
+pub returns : goal.returns
+returns c =
+    let a = c.args in
+    ap (λ (x : ℕ). leb a.least x)
+    (decimal_none a.s.now c.loop-at.at c.loop-at.n (search rules) ∙ c.loop-at.invariant)

@@ -1,0 +1,51 @@
+-- `unlocking::unlock` meets its contract. Assumes nothing.
+use lib.ListN.{length}
+use Rattle.keys.specs.Kdbx4Keys.{credential}
+use Rattle.unlocking.proofs.Laws.Opening.{within, beyond, unlocked_first, unlocked_second, unlocked_third, unlocked_within, shows_same, shows_said}
+use Rattle.unlocking.proofs.unlock.Goals as goal
+
+pub returns-then-not-is_within : goal.returns-then-not-is_within
+returns-then-not-is_within c =
+    let a = c.args in
+    let p = credential a.has_password a.password.now in
+    let k = credential a.has_key_file a.key_file.now in
+    let d = a.out.now in
+    shows_said _ _ d _ _
+    (unlocked_first p k a.f.now d a.memory.now (length d)
+    (beyond _ c.is_within.ensures c.if-not-is_within.true))
+
+pub returns-then-not-is_within-2 : goal.returns-then-not-is_within-2
+returns-then-not-is_within-2 c =
+    let a = c.args in
+    let p = credential a.has_password a.password.now in
+    let k = credential a.has_key_file a.key_file.now in
+    let d = a.out.now in
+    shows_said _ _ d _ _
+    (unlocked_second p k a.f.now d a.memory.now (length d)
+    (within _ c.is_within.ensures c.if-not-is_within.false)
+    (beyond _ c.is_within-2.ensures c.if-not-is_within-2.true))
+
+pub returns-then-not-is_within-3 : goal.returns-then-not-is_within-3
+returns-then-not-is_within-3 c =
+    let a = c.args in
+    let p = credential a.has_password a.password.now in
+    let k = credential a.has_key_file a.key_file.now in
+    let d = a.out.now in
+    shows_said _ _ d _ _
+    (unlocked_third p k a.f.now d a.memory.now (length d)
+    (within _ c.is_within.ensures c.if-not-is_within.false)
+    (within _ c.is_within-2.ensures c.if-not-is_within-2.false)
+    (beyond _ c.is_within-3.ensures c.if-not-is_within-3.true))
+
+pub returns : goal.returns
+returns c =
+    let a = c.args in
+    let p = credential a.has_password a.password.now in
+    let k = credential a.has_key_file a.key_file.now in
+    let d = a.out.now in
+    shows_said _ _ d _ _
+    (shows_same _ _ d _ _ _ c.open_as.ensures
+    (unlocked_within p k a.f.now d a.memory.now (length d)
+    (within _ c.is_within.ensures c.if-not-is_within.false)
+    (within _ c.is_within-2.ensures c.if-not-is_within-2.false)
+    (within _ c.is_within-3.ensures c.if-not-is_within-3.false)))

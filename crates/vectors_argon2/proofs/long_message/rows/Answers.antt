@@ -1,0 +1,8 @@
+-- `vectors_argon2::long_message::rows` meets its contract, by the law of `replicate`: computing the length would take
+-- too much. Assumes nothing.
+use mathlib.Core.Path.{sym}
+use lib.ListN.{length-replicate}
+use Rattle.vectors_argon2.proofs.long_message.rows.Goals as goal
+
+pub slice_bounds-run-end : goal.slice_bounds-run-end
+slice_bounds-run-end c = sym (length-replicate 2796187 c.args.b)

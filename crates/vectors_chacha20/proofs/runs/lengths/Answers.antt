@@ -1,0 +1,10 @@
+-- `vectors_chacha20::runs::lengths` meets its contract. Assumes nothing.
+use mathlib.Core.Path.{sym}
+use native.Mathlib.Omega.{arith}
+use lib.Seq.{length-take-le}
+use Rattle.vectors_chacha20.proofs.runs.lengths.Goals as goal
+
+pub slice_bounds-forms-end-in-loop-n : goal.slice_bounds-forms-end-in-loop-n
+slice_bounds-forms-end-in-loop-n c =
+    let l = c.loop-n in
+    sym (length-take-le l.n l.space (omega arith))

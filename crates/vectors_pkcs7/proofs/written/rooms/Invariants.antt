@@ -1,0 +1,11 @@
+-- `vectors_pkcs7::written::rooms` meets its contract. Assumes nothing.
+use mathlib.Core.Path.{◌≡◌}
+use Prim.Native.Nat.{◌+◌, ◌≤◌, ◌-◌}
+use lib.ListN.{length}
+use Rattle.vectors_pkcs7.proofs.written.rooms.Given as goal
+
+abbrev pub invariant-loop-n : goal.invariant-loop-n
+invariant-loop-n l = (length l.n ≡ length l.initial.space) × (n ≤ length l.initial.space + 1)
+
+abbrev pub decreases-loop-n : goal.decreases-loop-n
+decreases-loop-n l = length l.initial.space + 1 - n

@@ -1,0 +1,8 @@
+-- `writer::nonce_of` meets its contract. Assumes nothing.
+use mathlib.Core.Path.{◌∙◌}
+use Rattle.opening.proofs.Laws.Nonce.{over_padded}
+use Rattle.writer.proofs.nonce_of.Goals as goal
+
+pub returns : goal.returns
+returns c =
+    c.copy.ensures ∙ over_padded c.args.s.now c.requires
