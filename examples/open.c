@@ -1,7 +1,7 @@
 /* Opens a vault with a password, block by block, and writes its document to standard output.
  *
- *     rt staticlib exports
- *     gcc -O2 -Wall -Iinclude -o target/open examples/open.c target/staticlib/libexports.a
+ *     (cd crates/exports && rt lib)
+ *     gcc -O2 -Wall -Iinclude -o target/open examples/open.c crates/exports/out/libexports.a
  *     target/open VAULT PASSWORD
  */
 #include "vault.h"

@@ -1,7 +1,7 @@
 /* Opens a vault with a password, and writes its protected values to standard output, a line each, in document order.
  *
- *     rt staticlib exports
- *     gcc -O2 -Wall -Iinclude -o target/passwords examples/passwords.c target/staticlib/libexports.a
+ *     (cd crates/exports && rt lib)
+ *     gcc -O2 -Wall -Iinclude -o target/passwords examples/passwords.c crates/exports/out/libexports.a
  *     target/passwords VAULT PASSWORD
  *
  * A protected value is base64 of bytes that the inner stream covers. The stream is not restarted between values, so

@@ -1,4 +1,4 @@
-/* The proved KDBX 4 library for C. `rt staticlib exports` writes target/staticlib/libexports.a.
+/* The proved KDBX 4 library for C. `rt lib` in crates/exports writes crates/exports/out/libexports.a.
  *
  * A function that can refuse answers a number: 0 is success, any other is a refusal (docs/REFUSALS.md). A refusal changes
  * no byte of an output, a count or figures. A success changes the bytes due at the front of an output, and none behind them.
