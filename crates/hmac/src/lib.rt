@@ -5,6 +5,7 @@
 // accepted parts joined. Refusals: a key over a message's limit, with a state that refuses every feed; a feed that
 // would take the message, without the key block, past it, with the state as it was.
 #![tactic(auto)]
+
 ghost use Rattle.std.specs.Prelude.{◌≡◌, ◌≤◌, length};
 ghost use Rattle.refusals.specs.Limits.{message_limit};
 ghost use Rattle.hmac.specs.Rfc2104 as rfc2104;

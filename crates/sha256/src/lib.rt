@@ -4,6 +4,7 @@
 // the accepted parts joined. Refusal: a feed that would take the message past its limit, with the state as it was.
 // Every value of the struct is a state; how many bytes of the buffer are pending follows from the total.
 #![tactic(auto)]
+
 ghost use Rattle.std.specs.Prelude.{◌≡◌, ◌+◌, ◌<◌, ◌^◌, length};
 ghost use Rattle.fips180.specs.Fips180 as fips180;
 ghost use Rattle.sha256.specs.State as state;

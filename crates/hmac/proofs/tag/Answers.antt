@@ -18,7 +18,7 @@ returns-then-message_fits-2 c =
     let m = c.args.m.now in
     let tk = sym c.message_fits.ensures ∙ c.if-message_fits.true in
     let tm = sym c.message_fits-then-message_fits.ensures ∙ c.if-message_fits-2.true in
-    let e : c.finish.result ≡ hmac sha256 k m = c.finish-tag.ensures
+    let e : c.finish-tag.result ≡ hmac sha256 k m = c.finish-tag.ensures
     ∙ ap (λ (f : Keyed). finished f.next)
     (c.feed.ensures ∙ ap (λ (t : Keyed). fed t.next m) c.start.ensures)
     ∙ hmac_sha256_of_one k m (leb-true (length k) message_limit tk) (leb-true (length m) message_limit tm) in

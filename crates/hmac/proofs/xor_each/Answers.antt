@@ -17,11 +17,11 @@ pub loop-i-preserved : goal.loop-i-preserved
 loop-i-preserved c =
     let l = c.loop-i in
     let a = c.args in
-    let n : length a.t1 ≡ 64 = search rules in (
+    let n : length a.b ≡ 64 = search rules in (
       search rules,
       (
         simp length-set (search rules),
-        xor_each_more a.c a.t1 l.out l.i (omega arith)
+        xor_each_more a.c a.b l.out l.i (omega arith)
             (omega arith) l.invariant.1.1,
       ),
     )
@@ -30,7 +30,7 @@ pub returns : goal.returns
 returns c =
     let l = c.loop-i in
     let a = c.args in
-    let n : length a.t1 ≡ 64 = search rules in
+    let n : length a.b ≡ 64 = search rules in
     let h : length l.out ≤ l.i = omega arith in
-    let k : length a.t1 ≤ l.i = omega arith in
-    sym (take_all l.i l.out h) ∙ l.invariant.1.1 ∙ ap (xor_each a.c) (take_all l.i a.t1 k)
+    let k : length a.b ≤ l.i = omega arith in
+    sym (take_all l.i l.out h) ∙ l.invariant.1.1 ∙ ap (xor_each a.c) (take_all l.i a.b k)

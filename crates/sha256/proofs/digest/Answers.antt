@@ -14,7 +14,7 @@ loop-i-init c = (search rules, (search rules, refl))
 pub loop-i-preserved : goal.loop-i-preserved
 loop-i-preserved c =
     let l = c.loop-i in
-    let w = c.args.t1 in
+    let w = c.args.c in
     let long : length w ≡ 8 = search rules in (
       search rules,
       digest-turn sha256 w l.out l.i long l.invariant.1.0 (omega arith) l.invariant.1.1
@@ -24,6 +24,6 @@ loop-i-preserved c =
 pub returns : goal.returns
 returns c =
     let l = c.loop-i in
-    let w = c.args.t1 in
+    let w = c.args.c in
     let long : length w ≡ 8 = search rules in
     digest_all sha256 w l.out l.i 32 (omega arith) (omega arith) (omega arith) l.invariant.1.1

@@ -19,7 +19,7 @@ returns-then-message_fits c =
     let m = c.args.m.now in
     let t = sym c.message_fits.ensures ∙ c.if-message_fits.true in
     let l : length m ≤ message_limit = leb-true (length m) message_limit t in
-    let e : c.finish.result ≡ hash sha512 m = c.finish-digest.ensures
+    let e : c.finish-digest.result ≡ hash sha512 m = c.finish-digest.ensures
     ∙ ap (λ (f : Fed). finished f.next)
     (c.feed.ensures ∙ ap (λ (h : Sha512). fed h m) c.start.ensures)
     ∙ hash_is sha512 (search rules) message_limit m l in

@@ -12,12 +12,12 @@ use Rattle.sha256.proofs.block.compress.Goals as goal
 pub returns : goal.returns
 unfolding compress schedule k256
 returns c =
-    let long : length c.args.t1 ≡ 8 = search rules in
-    let s = c.args.t1 in
+    let long : length c.args.h ≡ 8 = search rules in
+    let s = c.args.h in
     let t = c.rounds-t.result in
-    let w = c.extend.new.0 in
+    let w = c.extend.new.w in
     let l = long in
-    let scheduled : w ≡ schedule sha256 st.args.s.now = c.extend.ensures
+    let scheduled : w ≡ schedule sha256 c.args.s.now = c.extend.ensures
     ∙ ap (grow sha256 48) c.load.ensures.loaded in
     let rounded =
     c.rounds-t.ensures
