@@ -3,7 +3,7 @@
 -- A block function gives, for each value of a counter, a block of 64 bytes; the stream is its blocks for 0, 1, 2 and
 -- so on. Byte p of the stream is byte p % 64 of block p / 64. It is applied by exclusive or, from any position on.
 --
---   byte_at f p         byte p of the stream
+--   byte_at f p        byte p of the stream
 --   keystream f p n    its n bytes from position p on
 --   apply f p s        the bytes s, of which the first stands at position p, with the stream applied
 -- Assumes nothing.

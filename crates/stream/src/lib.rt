@@ -6,6 +6,7 @@
 // sixteen words, and their bytes. The code is what such ciphers share: where a byte stands in the stream, a block from
 // two states, and a block applied. Every function answers every input.
 #![tactic(auto)]
+
 ghost use Rattle.std.specs.Prelude.{◌≡◌, ◌+◌, ◌-◌, ◌/◌, ◌%◌, ◌≤◌, min, length, drop};
 ghost use Rattle.std.proofs.lemmas.List.Edits.{sets};
 ghost use Rattle.slices.specs.Over.{over};

@@ -24,19 +24,26 @@ pub apply-nil : (f : ℕ → List ℕ) (p : ℕ) → apply f p [] ≡ []
 unfolding apply xors
 apply-nil f p = refl
 
+length_at : (f : ℕ → List ℕ) (q : ℕ) (s : List ℕ) → length (xors s (keystream f q (length s))) ≡ length s
+length_at f q s =
+    let e = length-keystream f q (length s) in
+    length-xors s (keystream f q (length s)) (omega arith)
+
 pub length-apply : (f : ℕ → List ℕ) (p : ℕ) (s : List ℕ) → length (apply f p s) ≡ length s
 unfolding apply
-length-apply f p s =
-    let e = length-keystream f p (length s) in
-    length-xors s (keystream f p (length s)) (omega arith)
+length-apply f p s = length_at f _ s
+
+twice_at : (f : ℕ → List ℕ) (q : ℕ) (s t : List ℕ) → t ≡ xors s (keystream f q (length s))
+    → xors t (keystream f q (length t)) ≡ s
+twice_at f q s t g =
+    let k : List ℕ = keystream f q (length s) in
+    let e : length k ≡ length s = length-keystream f q (length s) in
+    let h : length s ≤ length k = omega arith in
+    rw (g, length-xors s k h) (xors_undo s k h)
 
 pub apply-apply : (f : ℕ → List ℕ) (p : ℕ) (s : List ℕ) → apply f p (apply f p s) ≡ s
 unfolding apply
-apply-apply f p s =
-    let k : List ℕ = keystream f p (length s) in
-    let e : length k ≡ length s = length-keystream f p (length s) in
-    let h : length s ≤ length k = omega arith in
-    rw (length-xors s k h) (xors_undo s k h)
+apply-apply f p s = twice_at f _ s _ refl
 
 pub apply-append : (f : ℕ → List ℕ) (p : ℕ) (a b : List ℕ) → apply f p (a ++ b)
     ≡ apply f p a ++ apply f (p + length a) b

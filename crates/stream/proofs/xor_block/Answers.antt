@@ -11,7 +11,7 @@ use Rattle.stream.proofs.xor_block.Goals as goal
 pub loop-i-init : goal.loop-i-init
 loop-i-init c =
     let a = c.args in
-    let n : length a.t2 ≡ 64 = search rules in
+    let n : length a.block ≡ 64 = search rules in
     (search rules, n, search rules, sym (over_nil a.out.now))
 
 pub loop-i-preserved : goal.loop-i-preserved
@@ -23,7 +23,7 @@ loop-i-preserved c =
       search rules,
       l.invariant.1,
       simp length-set (search rules),
-      xors_more a.out.now a.t2 l.out a.from l.i l.invariant.1 h l.invariant.3,
+      xors_more a.out.now a.block l.out a.from l.i l.invariant.1 h l.invariant.3,
     )
 
 pub returns : goal.returns
@@ -34,5 +34,5 @@ returns c =
     let e : l.i ≡ min (length a.out.now) (64 - a.from) = omega arith in
     record {
       value = n;
-      out_after = l.invariant.3 ∙ xors_all a.out.now a.t2 a.from l.i l.invariant.1 e;
+      out_after = l.invariant.3 ∙ xors_all a.out.now a.block a.from l.i l.invariant.1 e;
     }
