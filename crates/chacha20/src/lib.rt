@@ -5,6 +5,7 @@
 // 32 bits: behind 2^38 bytes, which no vault has, the stream begins again. No index depends on the key; of branches see
 // docs/PROMISES.md, "Not claimed".
 #![tactic(auto)]
+
 ghost use Rattle.std.specs.Prelude.{◌≡◌};
 ghost use Rattle.stream.specs.Stream as stream;
 ghost use Rattle.chacha20.specs.Rfc8439 as rfc8439;
