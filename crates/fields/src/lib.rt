@@ -7,6 +7,7 @@
 // Values are told by their places, and nothing is copied. Refusals: 2, 7, 6, 5 and 2, in this order. `put` writes a
 // field.
 #![tactic(auto)]
+
 ghost use Rattle.std.specs.Prelude.{◌≡◌, ◌+◌, ◌≤◌, length};
 ghost use Rattle.words.specs.Endian.{le};
 ghost use Rattle.slices.specs.Over.{put_at};

@@ -13,7 +13,7 @@ unfolding value_at
 returns-then-length-s c =
     rw (
       sym c.size_at.ensures.value ∙ c.in-Of.is,
-      sym c.fits2.ensures ∙ c.if-fits.true,
+      sym c.fits.ensures ∙ c.if-fits.true,
       le-leb _ _ c.if-length-s.true,
     )
 
@@ -22,7 +22,7 @@ unfolding value_at
 returns-then-fits c =
     rw (
       sym c.size_at.ensures.value ∙ c.in-Of.is,
-      sym c.fits2.ensures ∙ c.if-fits.true,
+      sym c.fits.ensures ∙ c.if-fits.true,
       lt-leb _ _ c.if-length-s.false,
     )
 
@@ -31,5 +31,5 @@ unfolding value_at
 returns-in-Of c =
     rw (
       sym c.size_at.ensures.value ∙ c.in-Of.is,
-      sym c.fits2.ensures ∙ c.if-fits.false,
+      sym c.fits.ensures ∙ c.if-fits.false,
     )
