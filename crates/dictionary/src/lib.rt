@@ -8,6 +8,7 @@
 // names are searched for in batches (repeats): with a table of 64 places on the stack, and where there are more items
 // with one of 4,096 (16 KiB).
 #![tactic(auto)]
+
 ghost use Rattle.std.specs.Prelude.{◌≡◌, ◌+◌, ◌≤◌, length};
 ghost use Rattle.words.specs.Endian.{le};
 ghost use Rattle.words.specs.Size.{int32};

@@ -3,7 +3,6 @@
 -- In order: Placed, entry_at-placed, walk-placed, verdict-placed; part_end_lt, broken_lt, repeated_lt (in a file).
 -- Assumes nothing.
 use mathlib.Core.Path.{◌≡◌, refl, sym, ap, ◌∙◌}
-use mathlib.Core.Bool.{cond}
 use mathlib.Core.List.{List}
 use Prim.Native.Nat.{ℕ, zero, suc, ◌+◌, ◌-◌, ◌≤◌, ◌<◌}
 use native.Mathlib.Omega.{arith}

@@ -22,9 +22,9 @@ pub returns-in-Done : goal.returns-in-Done
 returns-in-Done c =
     let s = c.args.s.now in
     said_too said_verdict
-    (filled_done s 2 (length s) c.fill.new.1.1.1.0 c.fill.result c.in-Done.o
+    (filled_done s 2 (length s) c.fill.new.t c.fill.result c.in-Done.o
     c.fill.ensures c.in-Done.is
-    ∙ verdict-judge s (λ k. omega (arith, c.shared_slice_known-1.given k))
+    ∙ verdict-judge s (λ k. omega (arith, c.type_inv.s k))
     c.if-s-lt3.false c.if-s-ne1.false)
 
 pub returns-in-Full : goal.returns-in-Full
@@ -32,5 +32,5 @@ returns-in-Full c =
     let s = c.args.s.now in
     said_too said_verdict
     (c.judge.ensures
-    ∙ verdict-judge s (λ k. omega (arith, c.shared_slice_known-1.given k))
+    ∙ verdict-judge s (λ k. omega (arith, c.type_inv.s k))
     c.if-s-lt3.false c.if-s-ne1.false)

@@ -98,7 +98,7 @@ returns-then-add c =
     let p : a.from + (l.at - a.from) ≡ l.at = omega arith in
     let f =
     added_held (key_at a.s.now (a.from + (l.at - a.from))) ks
-    (held a.s.now a.from (l.n + 1) c.add.new.1.1.0)
+    (held a.s.now a.from (l.n + 1) c.add.new.t)
     c.add.result c.add.ensures c.if-add.true in
     judge-held a.stop l.left a.s.now ks l.at (search rules) c.in-Item.i
     (sym c.entry_at.ensures.value ∙ c.in-Item.is) u (rw p at f) ∙ l.invariant.0
@@ -120,7 +120,7 @@ loop-left-preserved c =
     let a = c.args in
     let s = a.s.now in
     let ks = held s a.from l.n l.t in
-    let ls = held s a.from (l.n + 1) c.add.new.1.1.0 in
+    let ls = held s a.from (l.n + 1) c.add.new.t in
     let p : a.from + (l.at - a.from) ≡ l.at = omega arith in
     let f =
     added_new (key_at s (a.from + (l.at - a.from))) ks ls c.add.result c.add.ensures c.if-add.false in
@@ -129,8 +129,8 @@ loop-left-preserved c =
     let w = entry_at_within s l.at c.in-Item.i q in (
       judge_added a.stop l.left s ks ls l.at c.in-Item.i (search rules) q u g.0 g.2 ∙ l.invariant.0,
       g.1,
-      omega (arith, c.add.auto.1.1.0),
-      c.add.auto.1.1.0 ∙ l.invariant.3,
+      omega (arith, c.add.auto.t),
+      c.add.auto.t ∙ l.invariant.3,
       omega (arith, w),
       omega (arith, w),
     )

@@ -29,7 +29,7 @@ pub returns-in-Done : goal.returns-in-Done
 returns-in-Done c =
     let l = c.loop-left in
     let s = c.args.s.now in
-    filled_done s l.at l.stop c.fill.new.1.1.1.0 c.fill.result c.in-Done.o
+    filled_done s l.at l.stop c.fill.new.t c.fill.result c.in-Done.o
     c.fill.ensures c.in-Done.is
     ∙ l.invariant.0
 
@@ -38,14 +38,14 @@ enum_known-held c = search rules
 
 pub slice_bounds-met-end : goal.slice_bounds-met-end
 slice_bounds-met-end c =
-    sym (c.fill.auto.1.1.1.0 ∙ c.loop-left.invariant.1)
+    sym (c.fill.auto.t ∙ c.loop-left.invariant.1)
 
 pub met-stop-requires : goal.met-stop-requires
 met-stop-requires c =
     let l = c.loop-left in
     let s = c.args.s.now in
     let u =
-    filled_full s l.at l.stop c.fill.new.1.1.1.0 c.fill.result c.in-Full.held c.in-Full.next c.fill.ensures
+    filled_full s l.at l.stop c.fill.new.t c.fill.result c.in-Full.held c.in-Full.next c.fill.ensures
     c.in-Full.is in
     record {
       n_in_bounds = u.within;
@@ -55,19 +55,15 @@ met-stop-requires c =
 
 pub loop-left-preserved : goal.loop-left-preserved
 loop-left-preserved c =
-    let m = c in
-    let h = m in
-    let f = h in
-    let l = f.loop in
-    let s = f.args.s.now in
-    let g = h.held.given in
+    let l = c.loop-left in
+    let s = c.args.s.now in
     let u =
-    filled_full s l.at l.stop f.fill.new.1.1.1.0 f.fill.result g.0.0 g.0.1.0 f.fill.ensures
-    g.1 in (
-      full_met s l.at l.stop f.fill.new.1.1.1.0 g.0.0 g.0.1.0 u
-          m.met.result m.met.ensures
+    filled_full s l.at l.stop c.fill.new.t c.fill.result c.in-Full.held c.in-Full.next c.fill.ensures
+    c.in-Full.is in (
+      full_met s l.at l.stop c.fill.new.t c.in-Full.held c.in-Full.next u
+          c.met-stop.result c.met-stop.ensures
           ∙ l.invariant.0,
-      f.fill.auto.1.1.1.0 ∙ l.invariant.1,
+      c.fill.auto.t ∙ l.invariant.1,
       u.next_le,
       omega (arith, u.further),
     )

@@ -44,5 +44,5 @@ returns-in-Free c =
     c.in-Free.j c.locate.result
     c.locate.ensures c.in-Free.is in
     held_added a.s.now a.base a.n a.t.now (omega arith) c.in-Free.j a.place
-    c.insert.new.0
+    c.insert.new.t
     c.requires.rising f c.insert.ensures

@@ -9,11 +9,11 @@ returns-then-a-b c =
     let a = c.args in
     order_less (key_of a.a.now) (key_of a.b.now)
     (key-length-lt a.a.now a.b.now c.if-a-b.true
-    (λ k. omega (arith, c.shared_slice_known-1.given k)))
+    (λ k. omega (arith, c.type_inv.a k)))
 
 pub returns-then-b-a : goal.returns-then-b-a
 returns-then-b-a c =
     let a = c.args in
     order_more (key_of a.a.now) (key_of a.b.now)
     (key-length-lt a.b.now a.a.now c.if-b-a.true
-    (λ k. omega (arith, c.shared_slice_known-2-1.given k)))
+    (λ k. omega (arith, c.type_inv.b k)))

@@ -11,7 +11,7 @@ returns-then-a-i c =
     let a = c.args in
     order_less (key_of a.a.now) (key_of a.b.now)
     (key_differ_lt a.a.now a.b.now c.loop-i.i
-    (λ k. omega (arith, c.shared_slice_known-1.given k)) c.requires (omega arith)
+    (λ k. omega (arith, c.type_inv.a k)) c.requires (omega arith)
     c.loop-i.invariant.0 c.if-a-i.true)
 
 pub returns-then-b-i : goal.returns-then-b-i
@@ -19,7 +19,7 @@ returns-then-b-i c =
     let a = c.args in
     order_more (key_of a.a.now) (key_of a.b.now)
     (key_differ_lt a.b.now a.a.now c.loop-i.i
-    (λ k. omega (arith, c.shared_slice_known-in-loop-i-2-1.given k)) (sym c.requires) (omega arith)
+    (λ k. omega (arith, c.type_inv.b k)) (sym c.requires) (omega arith)
     (sym c.loop-i.invariant.0) c.if-b-i.true)
 
 pub loop-i-preserved : goal.loop-i-preserved

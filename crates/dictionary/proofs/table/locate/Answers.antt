@@ -22,17 +22,17 @@ loop-low-init c =
 pub overflow_cast-t : goal.overflow_cast-t
 overflow_cast-t c =
     let l = c.loop-low in
-    omega (arith, c.shared_slice_known-in-loop-low-1.given (l.low + (l.high - l.low) / 2))
+    omega (arith, c.type_inv.t (l.low + (l.high - l.low) / 2))
 
 pub overflow_add-base : goal.overflow_add-base
 overflow_add-base c =
     let l = c.loop-low in
-    omega (arith, c.shared_slice_known-in-loop-low-1.given (l.low + (l.high - l.low) / 2))
+    omega (arith, c.type_inv.t (l.low + (l.high - l.low) / 2))
 
 pub name_at-requires : goal.name_at-requires
 name_at-requires c =
     let l = c.loop-low in
-    omega (arith, c.shared_slice_known-in-loop-low-1.given (l.low + (l.high - l.low) / 2))
+    omega (arith, c.type_inv.t (l.low + (l.high - l.low) / 2))
 
 pub loop-low-preserved-in-Less : goal.loop-low-preserved-in-Less
 loop-low-preserved-in-Less c =
