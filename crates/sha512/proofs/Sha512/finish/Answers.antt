@@ -1,5 +1,5 @@
 -- `sha512::Sha512::finish` meets its contract. Assumes nothing.
-use mathlib.Core.Path.{◌≡◌, refl, sym}
+use mathlib.Core.Path.{◌≡◌, refl}
 use Prim.Native.Nat.{◌≤◌}
 use native.Mathlib.Omega.{arith}
 use lib.ListN.{length}
@@ -12,36 +12,6 @@ use Rattle.sha512.proofs.Sha512.finish.Goals as goal
 
 wide : 4 ≤ sha512.bytes
 wide = omega arith
-
-pub slice_bounds-buffer-end : goal.slice_bounds-buffer-end
-slice_bounds-buffer-end c =
-    let long : length c.args.self.buffer ≡ 128 = search rules in
-    omega (arith, long)
-
-pub slice_bounds-copy-end-2 : goal.slice_bounds-copy-end-2
-slice_bounds-copy-end-2 c =
-    let long : length c.args.self.buffer ≡ 128 = search rules in
-    sym (last.length_front sha512 wide (held c.args.self) long)
-
-pub slice_bounds-last-end : goal.slice_bounds-last-end
-slice_bounds-last-end c =
-    let long : length c.args.self.buffer ≡ 128 = search rules in
-    omega (arith, last.length_marked sha512 wide (held c.args.self) long c.copy.ensures)
-
-pub slice_bounds-last-end-2 : goal.slice_bounds-last-end-2
-slice_bounds-last-end-2 c =
-    let long : length c.args.self.buffer ≡ 128 = search rules in
-    omega (
-      arith,
-      last.length-laid sha512 wide (held c.args.self) long c.copy.ensures
-          c.bytes64-bits.ensures c.copy-2.ensures,
-    )
-
-pub slice_bounds-blocks-end : goal.slice_bounds-blocks-end
-slice_bounds-blocks-end c =
-    let long : length c.args.self.buffer ≡ 128 = search rules in
-    last.length_last sha512 wide (held c.args.self) long c.copy.ensures
-    c.bytes64-bits.ensures c.copy-2.ensures
 
 pub blocks-c-requires : goal.blocks-c-requires
 unfolding k512
