@@ -1,7 +1,6 @@
 -- RFC 7693, appendix A: BLAKE2b-512 of "abc", computed. Assumes nothing.
 use mathlib.Core.Path.{◌≡◌, refl}
-use mathlib.Core.List.{List, [], ◌∷◌}
-use Prim.Native.Nat.{ℕ}
+use mathlib.Core.List.{[], ◌∷◌}
 use Rattle.words.specs.Endian.{le, le_bytes}
 use Rattle.words.specs.Xor.{xors}
 use Rattle.slices.specs.Over.{over}

@@ -6,6 +6,7 @@
 // into h as it is. Refusal: a feed that would take the message past its limit, with the state as it was.
 // Every value of the struct is a state; how many bytes of the buffer are pending follows from the total.
 #![tactic(auto)]
+
 ghost use Rattle.std.specs.Prelude.{◌≡◌, ◌+◌, ◌<◌, ◌^◌, length};
 ghost use Rattle.blake2b.specs.Rfc7693 as rfc7693;
 ghost use Rattle.blake2b.specs.State as state;

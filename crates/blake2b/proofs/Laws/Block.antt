@@ -17,7 +17,7 @@ use native.Mathlib.Numerals.{add-one}
 use native.Mathlib.Omega.{arith}
 use lib.Bits.{bit_xor, xor_zero_r}
 use lib.ListN.{length, get_or, take, drop, set, length-append, length-drop}
-use lib.Seq.{take-suc-set, take_all, take-suc, length-take-le, get_or-take, get_or-drop, take-append-le}
+use lib.Seq.{take-suc-set, take_all, take-suc, length-take-le, get_or-take, get_or-drop}
 use Rattle.words.specs.Endian.{le, le_bytes}
 use Rattle.words.proofs.Laws.Endian.{le-take, length-le_bytes}
 use Rattle.words.specs.Xor.{xors}

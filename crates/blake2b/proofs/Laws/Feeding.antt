@@ -7,18 +7,18 @@
 use mathlib.Core.Path.{◌≡◌, refl, sym, ap, ◌∙◌}
 use mathlib.Core.Bool.{true}
 use mathlib.Core.List.{List, [], ◌∷◌, ◌++◌, append_assoc, append-nil}
-use Prim.Native.Nat.{ℕ, ◌+◌, ◌-◌, ◌*◌, ◌/◌, ◌≤◌, ◌<◌}
+use Prim.Native.Nat.{ℕ, ◌+◌, ◌*◌, ◌≤◌, ◌<◌}
 use native.Mathlib.Nat.{zero-add}
 use native.Mathlib.Omega.{arith}
 use lib.Dec.{leb}
-use lib.ListN.{length, take, drop, replicate, length-append, length-drop, length-replicate}
+use lib.ListN.{length, replicate, length-append, length-drop, length-replicate}
 use borrow.Author.Tests.{le-leb, lt-leb, leb-true, leb-false}
 use Rattle.words.proofs.Laws.Cases.{by_bool}
 use Rattle.slices.proofs.Laws.Over.{take_over}
 use Rattle.refusals.specs.Limits.{message_limit}
 use Rattle.fips180.specs.Fips180.Constants.{iv512}
 use Rattle.fips180.specs.Feeds.{accepted}
-use Rattle.blake2b.specs.Rfc7693.{compression_f, blocks_before, padded, initial, chain, last_block, serialize, full}
+use Rattle.blake2b.specs.Rfc7693.{compression_f, blocks_before, padded, initial, chain, last_block, full}
 use Rattle.blake2b.specs.State.{waiting, pending, started, absorbed, fed, finished, feeds}
 use Rattle.blake2b.specs.declared.Blake2b.{Blake2b}
 use Rattle.blake2b.proofs.Laws.Block.{length-compression_f, length-serialize}

@@ -16,7 +16,7 @@ use lib.Dec.{ltb, ltb→lt}
 use lib.ListN.{length, get_or, set, length-set}
 use Rattle.words.specs.Word.{plus, rotr}
 use Rattle.words.proofs.Laws.Tests.{every_at}
-use Rattle.blake2b.specs.Rfc7693.{Four, half, mix, mixing_g, scheduled, round_on, rounds}
+use Rattle.blake2b.specs.Rfc7693.{Four, half, mix, mixing_g, round_on, rounds}
 use Rattle.blake2b.specs.Rfc7693.Constants.{sigma_rows}
 use Rattle.blake2b.specs.Working.{scheduled_g}
 

@@ -12,18 +12,18 @@ use borrow.Author.Rules.{rules}
 use Rattle.blake2b.proofs.serialize.Goals as goal
 
 pub loop-i-init : goal.loop-i-init
-loop-i-init c = (search rules, (search rules, serialize_none c.args.t1 (zeros 64)))
+loop-i-init c = (search rules, (search rules, serialize_none c.args.c (zeros 64)))
 
 pub loop-i-preserved : goal.loop-i-preserved
 loop-i-preserved c =
     let l = c.loop-i in
-    let w = c.args.t1 in
+    let w = c.args.c in
     let b = c.bytes64-b.result in
     let long : length w ≡ 8 = search rules in
     let eight : length b ≡ 8 = search rules in
     let front = length-take-le (l.i * 8) l.out (omega arith) in
     let fits : length (take (l.i * 8) l.out ++ b) ≤ length l.out = simp length-append (omega arith) in
-    let e = over_behind_fits b l.out c.copy.new.0 (l.i * 8) (64 - l.i * 8) (omega arith) (omega arith)
+    let e = over_behind_fits b l.out c.copy.new.out (l.i * 8) (64 - l.i * 8) (omega arith) (omega arith)
     c.copy.ensures in (
       search rules,
       (
@@ -35,6 +35,6 @@ loop-i-preserved c =
 pub returns : goal.returns
 returns c =
     let l = c.loop-i in
-    let w = c.args.t1 in
+    let w = c.args.c in
     let long : length w ≡ 8 = search rules in
     serialize_all w l.out l.i 64 (omega arith) (omega arith) (omega arith) l.invariant.1.1

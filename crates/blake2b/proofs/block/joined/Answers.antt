@@ -4,4 +4,4 @@ use borrow.Author.Rules.{rules}
 use Rattle.blake2b.proofs.block.joined.Goals as goal
 
 pub returns : goal.returns
-returns c = joined_is c.args.t1 c.args.t2 (search rules) (search rules)
+returns c = joined_is c.args.h c.args.v (search rules) (search rules)

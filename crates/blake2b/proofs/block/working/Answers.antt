@@ -6,4 +6,4 @@ use Rattle.blake2b.proofs.block.working.Goals as goal
 pub returns : goal.returns
 returns c =
     let a = c.args in
-    working_is a.t1 a.t a.f (search rules) c.flagged.ensures
+    working_is a.h a.t a.f (search rules) c.flagged.ensures
