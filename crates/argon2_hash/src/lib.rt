@@ -3,6 +3,7 @@
 // The contracts cite specs/LongHash. Refusal: a message that with the four bytes before it is over its limit; the lent
 // slice is then as it was.
 #![tactic(auto)]
+
 ghost use Rattle.std.specs.Prelude.{◌≡◌, ◌++◌, ◌+◌, ◌≤◌, ◌<◌, length};
 ghost use Rattle.words.specs.Endian.{le_bytes};
 ghost use Rattle.refusals.specs.Limits.{message_limit};

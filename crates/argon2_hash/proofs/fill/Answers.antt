@@ -5,7 +5,6 @@ use lib.ListN.{length}
 use borrow.Author.Tests.{le-leb, lt-leb}
 use Rattle.refusals.specs.Limits.{message_limit}
 use Rattle.argon2_hash.specs.LongHash.{filled, fill_outcome}
-use borrow.Author.Rules.{rules}
 use Rattle.argon2_hash.proofs.fill.Goals as goal
 
 pub returns-then-message : goal.returns-then-message
@@ -18,39 +17,27 @@ returns-then-message c =
       out_after = rw (lt-leb _ _ l);
     }
 
-pub fill_short-requires : goal.fill_short-requires
+pub fill_short-requires-clause-message_bound : goal.fill_short-requires-clause-message_bound
 unfolding message_limit
-fill_short-requires c =
-    let within : 4 + length c.args.message.now ≤ message_limit = omega arith in
-    record {
-      message_bound = within;
-      out_len_bound = search rules;
-    }
+fill_short-requires-clause-message_bound c = omega arith
 
 pub returns-then-out-le64 : goal.returns-then-out-le64
 unfolding filled fill_outcome message_limit
 returns-then-out-le64 c =
-    let within : 4 + length c.args.message.now ≤ message_limit = omega arith in
-    let l = within in
+    let l : 4 + length c.args.message.now ≤ message_limit = omega arith in
     record {
       value = rw (le-leb _ _ l);
       out_after = rw (le-leb _ _ l) c.fill_short.ensures;
     }
 
-pub fill_longer-requires : goal.fill_longer-requires
+pub fill_longer-requires-clause-message_bound : goal.fill_longer-requires-clause-message_bound
 unfolding message_limit
-fill_longer-requires c =
-    let within : 4 + length c.args.message.now ≤ message_limit = omega arith in
-    record {
-      message_bound = within;
-      in_bounds = search rules;
-    }
+fill_longer-requires-clause-message_bound c = omega arith
 
 pub returns : goal.returns
 unfolding filled fill_outcome message_limit
 returns c =
-    let within : 4 + length c.args.message.now ≤ message_limit = omega arith in
-    let l = within in
+    let l : 4 + length c.args.message.now ≤ message_limit = omega arith in
     record {
       value = rw (le-leb _ _ l);
       out_after = rw (le-leb _ _ l) c.fill_longer.ensures;

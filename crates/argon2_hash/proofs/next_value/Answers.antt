@@ -15,9 +15,9 @@ use Rattle.argon2_hash.proofs.next_value.Goals as goal
 pub returns : goal.returns
 returns c =
     let a = c.args in
-    let n : length a.t2 ≡ 64 = search rules in
-    let l : length a.t2 ≤ message_limit = omega (arith, message_blocks) in
+    let n : length a.v ≡ 64 = search rules in
+    let l : length a.v ≤ message_limit = omega (arith, message_blocks) in
     c.finish.ensures
     ∙ ap (λ (f : Fed). finished f.next)
-    (c.feed.ensures ∙ ap (λ (h : Blake2b). fed h a.t2) c.start.ensures)
-    ∙ full_of_one a.nn a.t2 l
+    (c.feed.ensures ∙ ap (λ (h : Blake2b). fed h a.v) c.start.ensures)
+    ∙ full_of_one a.nn a.v l
