@@ -1,10 +1,10 @@
 -- The cipher, the equivalent inverse cipher and the dual key schedule, by any tables: what the code makes of the tables
 -- that are lent to it.
 --
---   mixed_by, sub_by, inv_sub_by                          a state through a table
---   round_by, rounds_by, final_round_by, cipher_by         Cipher(), by a table t in the place of te
+--   mixed_by, sub_by, inv_sub_by                      a state through a table
+--   round_by, rounds_by, final_round_by, cipher_by    Cipher(), by a table t in the place of te
 --   eq_inv_round_by, eq_inv_rounds_by, eq_inv_final_round_by, eq_inv_cipher_by    EqInvCipher(), by u and t for inverse and td
---   dual_word_by, dual_by                                KeyExpansionEIC() of a key schedule, by t and u for te and td
+--   dual_word_by, dual_by                             KeyExpansionEIC() of a key schedule, by t and u for te and td
 -- By te, inverse and td they are FIPS 197's (proofs, Laws.Tabled: cipher_by-te, eq_inv_cipher_by-td, dual_by-td).
 -- Not here: the tables and their entries (crate aes_tables).
 -- Assumes nothing.

@@ -7,6 +7,7 @@
 // blocks, and promise what they make of any tables (specs/Tabled); by the right ones that is FIPS 197's (proofs,
 // Laws.Tabled). Table look-ups are not constant-time.
 #![tactic(auto)]
+
 ghost use Rattle.std.specs.Prelude.{◌≡◌};
 ghost use Rattle.fips197.specs.Fips197 as fips197;
 ghost use Rattle.aes.specs.Repeated.{repeated};

@@ -1,11 +1,11 @@
 -- The tables from which the code makes rounds, and what a look-up in any table gives.
 --
---   mix_entry, te                          SubBytes() with MixColumns() (5.1.1, 5.1.3): the products of a byte
+--   mix_entry, te                         SubBytes() with MixColumns() (5.1.1, 5.1.3): the products of a byte
 --   inverse                               the inverse S-box (5.3.2)
---   inv_mix_entry, mixed, td                InvSubBytes() with InvMixColumns() (5.3.2, 5.3.3)
---   entry_byte, column_byte                 what four bytes of a column make by a table: one byte, in row r
---   IsColumn, column_word                  a column of a round, with a word of the round key and without
---   sub_column, inv_sub_column               a column of the last round
+--   inv_mix_entry, mixed, td              InvSubBytes() with InvMixColumns() (5.3.2, 5.3.3)
+--   entry_byte, column_byte               what four bytes of a column make by a table: one byte, in row r
+--   IsColumn, column_word                 a column of a round, with a word of the round key and without
+--   sub_column, inv_sub_column            a column of the last round
 -- A table is any list of numbers; a place behind its end counts as zero.
 -- Not here: the publication (crate fips197).
 -- Assumes nothing.

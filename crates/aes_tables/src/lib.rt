@@ -6,6 +6,7 @@
 // and lent. The contracts cite specs/Tables. A look-up is told for any table: that a table is te or td is what building
 // it promises. Table look-ups are not constant-time: the places looked up depend on the key.
 #![tactic(auto)]
+
 ghost use Rattle.std.specs.Prelude.{◌≡◌};
 ghost use Rattle.gf256.specs.Gf256 as gf256;
 ghost use Rattle.fips197.specs.Fips197.{byte_of};

@@ -2,7 +2,7 @@
 --
 -- In order:
 --   round_by_is, eq_inv_round_by_is        a round
---   sub_by_is, inv_sub_by_is              the last round, before the round key
+--   sub_by_is, inv_sub_by_is               the last round, before the round key
 --   rounds_by_more, eq_inv_rounds_by_more  one round more
 -- Not here: that these are FIPS 197's by the right tables (Tabled).
 -- Assumes nothing.

@@ -3,10 +3,10 @@
 --
 -- In order:
 --   columns-block                    the columns of a block are bytes
---   cipher_by-te, repeated_by_te       Cipher() (5.1), once and n times
---   eq_inv_cipher_by-td                 EqInvCipher() (5.3.5)
+--   cipher_by-te, repeated_by_te     Cipher() (5.1), once and n times
+--   eq_inv_cipher_by-td              EqInvCipher() (5.3.5)
 --   dual_word_by_first, dual_word_by-mixed, dual_word_by_last    the words of the dual key schedule, by any tables
---   dual_by-td                        KeyExpansionEIC() of a key schedule (5.3.5)
+--   dual_by-td                       KeyExpansionEIC() of a key schedule (5.3.5)
 -- Not here: entries of the tables (aes_tables, Laws.Columns).
 -- Assumes nothing.
 use mathlib.Core.Path.{◌≡◌, refl, ◌∙◌, ap}

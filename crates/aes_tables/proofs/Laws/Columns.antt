@@ -2,11 +2,11 @@
 --
 -- In order:
 --   rotr8_bytes, bytes_turned, column_is    as the code computes a column, in any table
---   column_word_is                           a word as a column, in any table
---   column_byte-te, column_byte-td            a byte of a round's column, where the table is the right one
---   te-sbox, sub_column_bytes                a column of the last round
+--   column_word_is                          a word as a column, in any table
+--   column_byte-te, column_byte-td          a byte of a round's column, where the table is the right one
+--   te-sbox, sub_column_bytes               a column of the last round
 --   entries_inverse                         .. of the inverse cipher, where the table is the right one
---   sub_word_is, inv_mix_word_is               a word of the key schedule and of its dual, likewise
+--   sub_word_is, inv_mix_word_is            a word of the key schedule and of its dual, likewise
 -- Assumes nothing.
 use mathlib.Core.Path.{◌≡◌, sym, ◌∙◌, ap}
 use mathlib.Core.List.{List}

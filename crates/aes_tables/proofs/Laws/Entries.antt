@@ -1,9 +1,9 @@
 -- The entries of the tables te, td and inverse.
 --
 -- In order:
---   mix_entry_bytes, inv_mix_entry_bytes               the bytes of an entry
+--   mix_entry_bytes, inv_mix_entry_bytes            the bytes of an entry
 --   te_entry, inverse_entry, td_entry, mixed-inverse    the tables' entries
---   mix_entry_is, inv_mix_entry_is, times2_is          as the code computes them
+--   mix_entry_is, inv_mix_entry_is, times2_is       as the code computes them
 --   inverse_more, inverse_all                       a loop that writes each place at its value: one turn, and its end
 -- Assumes nothing.
 use mathlib.Core.Path.{◌≡◌, refl, sym, ◌∙◌, ap, ap₂}

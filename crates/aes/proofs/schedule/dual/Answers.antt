@@ -21,7 +21,7 @@ loop-i-preserved c =
       search rules,
       (
         simp length-set (search rules),
-        tabulate_more (λ k. dual_word_by a.te.now a.td.now k (get_or a.t3 k 0)) l.v l.i c.dual_word.result m l.invariant.1.1
+        tabulate_more (λ k. dual_word_by a.te.now a.td.now k (get_or a.w k 0)) l.v l.i c.dual_word.result m l.invariant.1.1
             c.dual_word.ensures,
       ),
     )
@@ -32,4 +32,4 @@ returns c =
     let l = c.loop-i in
     let a = c.args in
     let n : l.i ≡ 60 = omega arith in
-    tabulate_all 60 (λ k. dual_word_by a.te.now a.td.now k (get_or a.t3 k 0)) l.v l.i n l.invariant.1.0 l.invariant.1.1
+    tabulate_all 60 (λ k. dual_word_by a.te.now a.td.now k (get_or a.w k 0)) l.v l.i n l.invariant.1.0 l.invariant.1.1

@@ -17,7 +17,7 @@ loop-i-init c = (search rules, (length-replicate {A = ℕ} 60 0, refl))
 pub loop-i-preserved : goal.loop-i-preserved
 loop-i-preserved c =
     let l = c.loop-i in
-    let key = c.args.t1 in
+    let key = c.args.key in
     let m : l.i < length l.w = omega arith in (
       search rules,
       (
@@ -30,6 +30,6 @@ pub returns : goal.returns
 unfolding expanded
 returns c =
     let l = c.loop-i in
-    let key = c.args.t1 in
+    let key = c.args.key in
     let n : l.i ≡ 8 = omega arith in
     subst (λ (i : ℕ). take i l.w ≡ tabulate i (λ k. be 4 key (4 * k))) n l.invariant.1.1
