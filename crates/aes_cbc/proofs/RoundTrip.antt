@@ -2,8 +2,8 @@
 -- from every block before.
 --
 -- In order:
---   cipher-keeps, inv_cipher-keeps        lists of sixteen stay so, for the laws of crate cbc
---   cipher-inverse, inv_cipher-inverse    AES-256 is a block cipher with its inverse
+--   cipher-keeps, inv_cipher-keeps       lists of sixteen stay so, for the laws of crate cbc
+--   cipher-inverse, inv_cipher-inverse   AES-256 is a block cipher with its inverse
 --   aes_cbc_decrypt_encrypt, aes_cbc_encrypt_decrypt
 -- Not here: cuts of a run (cbc, Laws.Mode).
 -- Assumes nothing.

@@ -1,7 +1,7 @@
 -- AES-256 (FIPS 197) in the CBC mode (SP 800-38A, 6.2), under the key schedule w, chained to the block c.
 --
 --   encrypt, decrypt    the whole blocks of a string
---   eq_decrypt           the same as decrypt, by EqInvCipher() (FIPS 197, 5.3.5) on the dual key schedule v
+--   eq_decrypt          the same as decrypt, by EqInvCipher() (FIPS 197, 5.3.5) on the dual key schedule v
 -- Not here: the block that what follows is chained to (cbc, Sp80038a.previous).
 -- Assumes nothing.
 use Rattle.std.specs.Prelude.{List, ℕ}

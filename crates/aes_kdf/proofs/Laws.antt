@@ -1,14 +1,14 @@
 -- Laws of the key transformation.
 --
 -- In order:
---   half_after-add                     a rounds and then b more are a + b
+--   half_after-add                    a rounds and then b more are a + b
 --   open_done, remaining-le           no more rounds are done, or remain, than are asked for
 --   remaining-advanced                a step of n leaves n rounds fewer, or none
 --   advanced-zero, advanced-add       a step of no rounds, and one step behind another
 --   mark-marked, marked-mark          marks and Bools
 --   held-stored, stored-held          the struct and what it stands for
 --   left_is, right_is                 the halves, as code copies them
---   open_after, remaining_after, advanced_after   one step from d rounds done
+--   open_after, remaining_after, advanced_after    one step from d rounds done
 -- Not here: lists of steps (Steps).
 -- Assumes nothing.
 use mathlib.Core.Path.{◌≡◌, refl, ap, ◌∙◌}

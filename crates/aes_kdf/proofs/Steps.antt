@@ -11,7 +11,7 @@
 --   key_too_early             before, there is none: refusal 19
 --   key_in_one_step           all rounds in one step
 --   started_within            an accepted start has no more rounds than the limit
---   done_by-le, done_by_end     no more rounds are done than are asked for; j steps of n do all of r where j * n is at least r
+--   done_by-le, done_by_end   no more rounds are done than are asked for; j steps of n do all of r where j * n is at least r
 --   steps_end, steps_short    r / n rounded up steps of n, n at least 1, do all of r, and so do more; fewer do fewer
 --   helpings_end              .. in one statement: after so many or more T is the definition's, and before it is 19
 --   key_of_no_rounds          R = 0 has T from the start

@@ -1,9 +1,9 @@
 -- Laws of the ciphers' figures.
 --
 -- In order:
---   nonce_length-le         a nonce has sixteen bytes at most
+--   nonce_length-le        a nonce has sixteen bytes at most
 --   length-identifier      an identifier has sixteen
---   cipher_of-identifier    .. and names its cipher
+--   cipher_of-identifier   .. and names its cipher
 -- Assumes nothing.
 use mathlib.Core.Path.{◌≡◌, refl}
 use Prim.Native.Nat.{◌≤◌}

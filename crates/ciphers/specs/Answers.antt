@@ -1,7 +1,7 @@
 -- What the answer to an identifier says (document 01, "Refusal numbers"): 9, "cipher .. not listed"; "0 is success. A
 -- refusal returns its number with zero in every other answer".
 --
---   cipher_number    0 of AES-256, 1 of ChaCha20
+--   cipher_number   0 of AES-256, 1 of ChaCha20
 --   said            the cipher's number
 -- Not here: what the answer is (Ciphers).
 -- Assumes nothing.

@@ -1,7 +1,7 @@
 -- Laws of the inner stream.
 --
 -- In order:
---   Planned, planned-wrote, accepted-planned   what is known where a stretch is not refused
+--   Planned, planned-wrote, accepted-planned    what is known where a stretch is not refused
 --   key_message, open_cipher             a key that fits can be hashed; an open state has a cipher
 --   open_fits, open_behind, open_takes   .. is within the limit, stays open, takes every stretch that fits
 --   length-covered, covered_front        as many bytes, at the front of the lent output

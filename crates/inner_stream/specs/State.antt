@@ -1,7 +1,7 @@
 -- The inner stream as a state: document 02, Item 1, "The state carries over from one password to the next".
 --
 --   started    a start: 9, then 1 for the key
---   is_open     whether a state goes on: its start was accepted, and its position is one that a call could have left
+--   is_open    whether a state goes on: its start was accepted, and its position is one that a call could have left
 --   applied    a stretch at the state's position: 19 where it is not open; then 1, 17; a refusal leaves the state as it
 --              was, and otherwise its position is behind the stretch
 --   handed     the bytes that the lent output then has at its front

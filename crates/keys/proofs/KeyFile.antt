@@ -2,12 +2,12 @@
 --
 -- In order:
 --   key_file_part_32, -digits, -other, -hashed    each of the three, by what the file is
---   key_file_part_case        both cases of a digit give the same part
---   key_file_part-encode      the digits of 32 bytes give those bytes
---   length-key_file_part      the part has 32 bytes
---   former_part              document 01's rule, which Item 2 supersedes
---   key_file_part_former      no other file's part changed
---   key_file_part_of_hash     a file's hash, as a key file of 32 bytes, gives the part that the former rule gave the file
+--   key_file_part_case      both cases of a digit give the same part
+--   key_file_part-encode    the digits of 32 bytes give those bytes
+--   length-key_file_part    the part has 32 bytes
+--   former_part             document 01's rule, which Item 2 supersedes
+--   key_file_part_former    no other file's part changed
+--   key_file_part_of_hash   a file's hash, as a key file of 32 bytes, gives the part that the former rule gave the file
 --   composite_of_hash       .. and with the same password, or none, the composite key that the former rule gave
 -- Not here: the order of refusals (Laws), hexadecimal digits (crate hexadecimal, Laws).
 -- Assumes nothing.

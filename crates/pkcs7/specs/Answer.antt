@@ -1,7 +1,7 @@
 -- How a lent slice and an answer stand for what RFC 5652 defines.
 --
---   padded n d       a slice d after the padding of its first n bytes was written behind them
---   answer p         a padding's length as the check answers it
+--   padded n d        a slice d after the padding of its first n bytes was written behind them
+--   answer p          a padding's length as the check answers it
 --   wrong_bits i p x  one byte's part in the check
 -- Assumes nothing.
 use Rattle.std.specs.Prelude.{cond, List, ℕ, ◌+◌, eqb, ltb, length, take}

@@ -1,9 +1,9 @@
 -- Document 01, "Refusal numbers": the number of each refusal. 0 is success. Document 02, Items 3 and 6: 20 and 22;
 -- Item 8: the place.
 --
---   of_refusal, place_of, unplaced    a refusal: its number, its place, and itself without it
---   of_outcome, place_of_outcome       an outcome
---   of_written, place_of_written       a writing; count_of: how many bytes were written
+--   of_refusal, place_of, unplaced  a refusal: its number, its place, and itself without it
+--   of_outcome, place_of_outcome    an outcome
+--   of_written, place_of_written    a writing; count_of: how many bytes were written
 --   Said, success, refused          what an answer says in these terms: a number, a place and values
 -- Not here: what each answer of another crate says (its own Answers).
 -- Assumes nothing.

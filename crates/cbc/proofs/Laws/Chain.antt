@@ -2,9 +2,9 @@
 --
 -- In order:
 --   last_block-append, last_block_size
---   decrypt_blocks-encrypt_blocks, encrypt_blocks-decrypt_blocks        each undoes the other
---   encrypt_blocks_all, decrypt_blocks_all                            blocks
---   decrypt_blocks-append, encrypt_blocks-append                      in two parts
+--   decrypt_blocks-encrypt_blocks, encrypt_blocks-decrypt_blocks    each undoes the other
+--   encrypt_blocks_all, decrypt_blocks_all                          blocks
+--   decrypt_blocks-append, encrypt_blocks-append                    in two parts
 --   length-decrypt_blocks, length-encrypt_blocks, decrypt_blocks-sizes, encrypt_blocks-sizes
 -- Not here: cutting and joining (Blocks); strings (Mode).
 -- Assumes nothing.

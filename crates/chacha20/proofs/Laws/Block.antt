@@ -1,7 +1,7 @@
 -- The block function: 64 bytes from sixteen words, whatever key, counter and nonce.
 --
 -- In order:
---   initial_state_is, block_is    these words, and these steps, are a block's
+--   initial_state_is, block_is   these words, and these steps, are a block's
 --   length-block                 every block is 64 bytes
 --   block-mod                    only the counter's low 32 bits count
 -- Not here: rounds (Rounds), sums of words and their bytes (the crate stream's Words).

@@ -1,10 +1,10 @@
 -- Quarter rounds, in place on a state of sixteen words.
 --
 -- In order:
---   quarter_round_is, qround_is                 these steps are a quarter round
---   inner_block_is                              these eight are an inner block: the four of a round in another order
---   inner_blocks_more                           one more inner block
---   length-inner_block, length-inner_blocks      sixteen words stay sixteen
+--   quarter_round_is, qround_is                these steps are a quarter round
+--   inner_block_is                             these eight are an inner block: the four of a round in another order
+--   inner_blocks_more                          one more inner block
+--   length-inner_block, length-inner_blocks    sixteen words stay sixteen
 -- Not here: the block function (Block).
 -- Assumes nothing.
 use mathlib.Core.Path.{◌≡◌, refl, ap, ◌∙◌}

@@ -1,11 +1,11 @@
 -- FIPS 197, 5.3.5: EqInvCipher() on the dual key schedule is InvCipher() on the key schedule.
 --
 -- In order:
---   inv_mix_of, inv_mix_word_bytes                           a word mixed
---   dual_word_first, dual_word-mixed, dual_word_last        the words of the dual key schedule
---   inv_mix_columns-add_round_key                            a round key mixed beforehand
---   eq_inv_cipher-dual, length-eq_inv_cipher                 the theorem
---   eq_inv_rounds-block                                    blocks
+--   inv_mix_of, inv_mix_word_bytes                       a word mixed
+--   dual_word_first, dual_word-mixed, dual_word_last     the words of the dual key schedule
+--   inv_mix_columns-add_round_key                        a round key mixed beforehand
+--   eq_inv_cipher-dual, length-eq_inv_cipher             the theorem
+--   eq_inv_rounds-block                                  blocks
 -- Assumes nothing.
 use mathlib.Core.Path.{◌≡◌, refl, sym, ◌∙◌, ap}
 use mathlib.Core.List.{List}

@@ -2,8 +2,8 @@
 --
 -- In order:
 --   rounds-block, cipher-block, inv_cipher-block    blocks
---   inv_cipher-cipher, cipher-inv_cipher       the theorem
---   length-cipher, length-inv_cipher          on lists that are no blocks too
+--   inv_cipher-cipher, cipher-inv_cipher     the theorem
+--   length-cipher, length-inv_cipher         on lists that are no blocks too
 -- Not here: the transformations of a round (Transformations).
 -- Assumes nothing.
 use mathlib.Core.Path.{◌≡◌, refl, ◌∙◌, ap, ap₂}

@@ -5,7 +5,7 @@
 --   Linear4, linear4_same     linear functions of four bytes, by their values at powers of two
 --   mix_byte_linear, inv_mix_byte_linear
 --   mix_byte-lt, inv_mix_byte-lt
---   row, inv_mix_byte-mix_byte, mix_byte-inv_mix_byte    each matrix undoes the other
+--   row, inv_mix_byte-mix_byte, mix_byte-inv_mix_byte  each matrix undoes the other
 -- Assumes nothing.
 use mathlib.Core.Path.{◌≡◌, refl, sym, ◌∙◌}
 use mathlib.Core.Bool.{Bool}

@@ -1,10 +1,10 @@
 -- FIPS 197, 5.1 and 5.3: each transformation of the state is undone by its inverse, and each gives blocks.
 --
 -- In order:
---   add_round_key-add_round_key, add_round_key-block    5.1.4, 5.3.4
---   sub, inv_sub                                   SubBytes() with ShiftRows(), and their inverses
+--   add_round_key-add_round_key, add_round_key-block  5.1.4, 5.3.4
+--   sub, inv_sub                                      SubBytes() with ShiftRows(), and their inverses
 --   inv_sub-sub, sub-inv_sub, sub-block, inv_sub-block
---   inv_mix_columns-mix_columns, mix_columns-inv_mix_columns, mix_columns-block, inv_mix_columns-block    5.1.3, 5.3.3
+--   inv_mix_columns-mix_columns, mix_columns-inv_mix_columns, mix_columns-block, inv_mix_columns-block  5.1.3, 5.3.3
 -- Not here: a column of bytes (Mix); the rounds (Inverse).
 -- Assumes nothing.
 use mathlib.Core.Path.{◌≡◌, refl, ◌∙◌}

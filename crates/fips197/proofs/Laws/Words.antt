@@ -1,7 +1,7 @@
 -- Words and their four bytes.
 --
 -- In order:
---   byte_of-lt                   a byte of a word is one
+--   byte_of-lt                  a byte of a word is one
 --   bytes_own, bytes_word       a word's own bytes; the word of four bytes
 --   word_bytes                  the word of a word's bytes
 --   bytes_is                    equal bytes

@@ -3,8 +3,8 @@
 --
 -- In order:
 --   gmul-ginv                           4.4: the inverse is one
---   sbox_table, get_or-sbox_table         5.1.1: the table
---   inv_sbox_table, sbox-lt, sbox_inj    the S-box on bytes
+--   sbox_table, get_or-sbox_table       5.1.1: the table
+--   inv_sbox_table, sbox-lt, sbox_inj   the S-box on bytes
 --   inv_sbox-sbox, inv_sbox_unique, get_or-inv_sbox_table, inv_sbox-lt, sbox-inv_sbox    5.3.2: its inverse
 -- Not here: multiplication (Field).
 -- Assumes nothing.

@@ -1,9 +1,9 @@
 -- The check of a last piece: a loop that looks at every byte, the last one first, and gathers the bits that are wrong.
 --
 -- In order:
---   checked_from                                   the check of the bytes from a place on
---   checked_from_end, checked_from_more             where the loop starts, and one turn
---   checked_from_all                               the loop's end
+--   checked_from                                  the check of the bytes from a place on
+--   checked_from_end, checked_from_more           where the loop starts, and one turn
+--   checked_from_all                              the loop's end
 --   answer-zero, answer_large, answer-checked     the returns
 --   answer_of, answer_wrong                       what an answer says, for callers
 -- Not here: what the padding's length means (Padding).

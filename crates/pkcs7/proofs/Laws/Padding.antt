@@ -1,7 +1,7 @@
 -- PKCS #7: what was padded is accepted and comes back, and what is accepted was padded.
 --
 -- In order:
---   all_are-replicate, replicate-all_are    the test of a padding's bytes
+--   all_are-replicate, replicate-all_are  the test of a padding's bytes
 --   padding-padded, padded-padding        the length found is the rule's
 --   padding-le, padding-append            sixteen at most, and the last piece alone decides
 --   length-pad, padded-pad, bytes_pad     what padding makes

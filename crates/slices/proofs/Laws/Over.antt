@@ -5,7 +5,7 @@
 --   over_own                           a list's own front over it
 --   over_over                          what begins with it hides it
 --   take_over, drop_over               the written part, and what stays
---   over_append                          one part written behind another
+--   over_append                        one part written behind another
 --   over_more                          one byte more of a list
 --   over_sets                          stores one after the other
 --   over_tail                          a tail lent to a writer, and back

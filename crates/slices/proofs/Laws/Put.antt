@@ -3,9 +3,9 @@
 -- In order:
 --   length-laid, length-put_at    how long
 --   put_at-laid                   a part laid behind what was laid: the two joined are laid
---   laid_first, laid_more        a first part, and one more, as code lays them
+--   laid_first, laid_more         a first part, and one more, as code lays them
 --   put_at_past                   nothing has room behind the end
---   put_at-append, put_at-put_at    behind a front that stays, and a part laid behind a part
+--   put_at-append, put_at-put_at  behind a front that stays, and a part laid behind a part
 --   put_at-tail                   the tail lent to a copy, and back
 -- Assumes nothing.
 use mathlib.Core.Path.{◌≡◌, sym, ap, ◌∙◌}

@@ -2,7 +2,7 @@
 --
 -- In order:
 --   length-keystream, keystream-add    how many, and cut in two
---   get_or-keystream                     one of them
+--   get_or-keystream                   one of them
 --   keystream-block                    those within one block
 -- Not here: the stream applied to bytes (Apply).
 -- Assumes nothing.

@@ -2,7 +2,7 @@
 --
 -- In order:
 --   same_sixteen                                     two functions that agree on every sixteen words
---   length-sum, get_or-sum                             sums of words
+--   length-sum, get_or-sum                           sums of words
 --   length-serialize, length-serialize-sum           the bytes of words: 64 of sixteen sums
 --   serialize_none, serialize_more, serialize_all    words written one after the other
 -- Not here: one word's bytes (the crate words' Endian).

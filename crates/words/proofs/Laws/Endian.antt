@@ -10,7 +10,7 @@
 --   le-drop, be-drop          a reading further on
 --   le-lt, be-lt              n bytes make a number below 256^n
 --   length-le_bytes, length-be_bytes
---   le-le_bytes, le_bytes-le    from a number to its bytes and back, from bytes to their number and back
+--   le-le_bytes, le_bytes-le  from a number to its bytes and back, from bytes to their number and back
 -- Not here: exclusive or (XorBytes).
 -- Assumes nothing.
 use Rattle.std.proofs.Common.{◌≡◌, ℕ, zero, suc, ◌+◌, ◌-◌, ◌*◌, ◌/◌, ◌%◌, ◌^◌, ◌<◌, ◌≤◌, List, ◌∷◌, ◌++◌, length, get_or, take, drop, sym, refl, ap, ◌∙◌, add-zero, add_assoc, mul_assoc, mul_comm, pow-suc, zero-add, add-one, arith, get_or-drop, drop-cons, get_or-take}
