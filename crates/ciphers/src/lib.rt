@@ -3,6 +3,7 @@
 // The contracts cite specs/Ciphers, and specs/Answers for what an answer says. The identifiers and nonce lengths are
 // constants of each cipher's type. Refusal: 9.
 #![tactic(auto)]
+
 ghost use Rattle.std.specs.Prelude.{◌≡◌, [], ◌∷◌, take};
 ghost use Rattle.ciphers.specs.Ciphers as ciphers;
 ghost use Rattle.ciphers.specs.Answers as answers;

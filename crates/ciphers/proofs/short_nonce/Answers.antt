@@ -9,7 +9,7 @@ use Rattle.ciphers.proofs.short_nonce.Goals as goal
 
 pub returns : goal.returns
 returns c =
-    let v = c.args.t1 in
+    let v = c.args.nonce in
     let l : length v ≡ 16 = search rules in
     let n : length (take 12 v) ≡ 12 = length-take-le 12 v (omega arith) in
     c.copy.ensures ∙ over_all (take 12 v) (replicate 12 0) (omega arith)
