@@ -17,7 +17,7 @@
 -- Places are those of the file: `p` is where the dictionary stands in it.
 -- Not here: dictionaries themselves (crate dictionary), those that are written (Kdf), the bounds (refusals, Limits).
 -- Assumes nothing.
-use Rattle.std.specs.Prelude.{Bool, true, false, cond, not, ◌&&◌, List, ℕ, ◌+◌, ◌-◌, eqb, leb, length, take, drop}
+use Rattle.std.specs.Prelude.{Bool, true, false, cond, not, ◌&&◌, List, ℕ, ◌+◌, ◌-◌, eqb, leb, length}
 use Rattle.words.specs.Endian.{le}
 use Rattle.slices.specs.Same.{same}
 use Rattle.refusals.specs.declared.Refusal.TheVariants.{Repeated, Unlisted, BrokenDictionary, TooManyRounds, TooFewRounds, FigureOutside}

@@ -4,6 +4,7 @@
 // The contracts cite specs/KdfDictionary, and specs/Answers for what an answer says. Refusals: 10 and 6 for the
 // dictionary itself, then for its items 10 and 9 of the identifier; of AES-KDF 10, 11 and 20; of Argon2 10, 9 and 22.
 #![tactic(auto)]
+
 ghost use Rattle.std.specs.Prelude.{◌≡◌, ◌+◌, ◌^◌, ◌<◌, ◌≤◌, length};
 ghost use Rattle.kdf_dictionary.specs.KdfDictionary as kdbx4;
 ghost use Rattle.kdf_dictionary.specs.Answers as answers;

@@ -6,10 +6,10 @@
 --   kdf_bytes_salt_is    its seed or salt stands where it is told
 -- Not here: that it is sound, and what is found in it (Written).
 -- Assumes nothing.
-use mathlib.Core.Path.{◌≡◌, refl, sym, ap, ap₂, ◌∙◌}
+use mathlib.Core.Path.{◌≡◌, refl, sym, ap, ◌∙◌}
 use mathlib.Core.Bool.{true, false, cond}
-use mathlib.Core.List.{List, [], ◌∷◌, ◌++◌, append_assoc}
-use Prim.Native.Nat.{ℕ, ◌+◌, ◌^◌, ◌≤◌, ◌<◌}
+use mathlib.Core.List.{List, [], ◌∷◌, append_assoc}
+use Prim.Native.Nat.{ℕ, ◌+◌, ◌≤◌, ◌<◌}
 use native.Mathlib.Omega.{arith}
 use lib.Dec.{leb}
 use lib.ListN.{length, take, drop}
@@ -20,10 +20,9 @@ use Rattle.slices.proofs.Laws.Same.{same_refl}
 use Rattle.refusals.specs.declared.Refusal.TheVariants.{TooFewRounds}
 use Rattle.refusals.specs.Limits.{rounds_least, rounds_limit, argon2_fits}
 use Rattle.refusals.proofs.Laws.Limits.{rounds-word, rounds_some, argon2_fits_bounds}
-use Rattle.fields.specs.Fields.{bytes_at, given}
+use Rattle.fields.specs.Fields.{bytes_at}
 use Rattle.fields.specs.declared.Place.{Place}
 use Rattle.dictionary.specs.Dictionary.{size_fits_type, verdict, item_bytes}
-use Rattle.dictionary.specs.declared.Found.{Found}
 use Rattle.dictionary.specs.declared.Found.TheVariants as found
 use Rattle.kdf_dictionary.specs.declared.Items.{Items}
 use Rattle.kdf_dictionary.specs.declared.Variant.{Variant}
@@ -33,49 +32,8 @@ use Rattle.kdf_dictionary.specs.declared.Kdf.TheVariants as kdf
 use Rattle.kdf_dictionary.specs.declared.Reading.TheVariants as read
 use Rattle.kdf_dictionary.specs.declared.writer.Figures.{Figures}
 use Rattle.kdf_dictionary.specs.declared.writer.Figures.TheVariants as figures
-use Rattle.kdf_dictionary.specs.Kdf.{
-  aes_kdf_uuid,
-  argon2d_uuid,
-  argon2id_uuid,
-  uuid_name,
-  salt_name,
-  rounds_name,
-  version_name,
-  passes_name,
-  memory_name,
-  lanes_name,
-  secret_name,
-  associated_name,
-  aes_kdf_bytes,
-  argon2_bytes,
-  kdf_bytes,
-  kdf_length,
-  IsWritable,
-  written_kdf,
-}
-use Rattle.kdf_dictionary.specs.KdfDictionary.{
-  searched,
-  fault_in,
-  typed_in,
-  item_of,
-  is_found,
-  has_item,
-  place_in,
-  aes_kdf_in,
-  aes_kdf_of,
-  argon2_items,
-  complete,
-  argon2_listed,
-  argon2_kdf,
-  argon2_figures,
-  argon2_in,
-  listed_as,
-  listed_in,
-  uuid_in,
-  uuid_of,
-  kdf_in,
-  kdf_of,
-}
+use Rattle.kdf_dictionary.specs.Kdf.{aes_kdf_uuid, argon2d_uuid, argon2id_uuid, uuid_name, salt_name, rounds_name, version_name, passes_name, memory_name, lanes_name, secret_name, associated_name, aes_kdf_bytes, argon2_bytes, kdf_bytes, IsWritable, written_kdf}
+use Rattle.kdf_dictionary.specs.KdfDictionary.{searched, fault_in, typed_in, item_of, is_found, has_item, aes_kdf_in, aes_kdf_of, argon2_items, complete, argon2_listed, argon2_kdf, argon2_figures, argon2_in, listed_as, listed_in, uuid_in, uuid_of, kdf_in, kdf_of}
 use Rattle.kdf_dictionary.proofs.Laws.Written.{
   Part,
   IsSound,

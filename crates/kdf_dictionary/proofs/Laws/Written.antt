@@ -12,13 +12,12 @@
 use mathlib.Core.Path.{◌≡◌, refl, sym, ap, ap₂, ◌∙◌}
 use mathlib.Core.Bool.{Bool, true, false, cond}
 use mathlib.Core.List.{List, [], ◌∷◌, ◌++◌, append_assoc, append-nil}
-use Prim.Native.Nat.{ℕ, zero, suc, ◌+◌, ◌-◌, ◌%◌, ◌^◌, ◌≤◌, ◌<◌}
+use Prim.Native.Nat.{ℕ, ◌+◌, ◌-◌, ◌%◌, ◌^◌, ◌≤◌, ◌<◌}
 use native.Mathlib.Nat.{add-zero, mod-eq_of_lt}
 use native.Mathlib.Omega.{arith}
-use lib.Dec.{eqb, leb, ltb}
 use lib.ListN.{length, get_or, take, drop, length-append}
 use lib.Seq.{get_or-append_seam, drop-append_seam, take-append_seam}
-use borrow.Author.Tests.{le-leb, lt-leb, le-ltb, lt-ltb, ne_eqb, eq-eqb}
+use borrow.Author.Tests.{lt-leb, le-ltb, lt-ltb, ne_eqb}
 use Rattle.words.specs.Endian.{le, le_bytes}
 use Rattle.words.specs.Size.{int32}
 use Rattle.words.specs.declared.le.Size.TheVariants.{Of}
@@ -31,23 +30,7 @@ use Rattle.dictionary.specs.declared.Item.{Item}
 use Rattle.dictionary.specs.declared.Entry.TheVariants as entry
 use Rattle.dictionary.specs.declared.Found.{Found}
 use Rattle.dictionary.specs.declared.Found.TheVariants as found
-use Rattle.dictionary.specs.Dictionary.{
-  size_fits_type,
-  item_at,
-  value_at,
-  name_at,
-  entry_at,
-  name_of,
-  next,
-  named_in,
-  named,
-  walk_in,
-  walk,
-  verdict,
-  search_in,
-  search_from,
-  item_bytes,
-}
+use Rattle.dictionary.specs.Dictionary.{size_fits_type, value_at, name_at, entry_at, name_of, next, named_in, named, walk_in, walk, verdict, search_in, search_from, item_bytes}
 use Rattle.dictionary.proofs.Laws.Walk.{named_past, named_more, walk_more, search_from_more}
 use Rattle.kdf_dictionary.proofs.Laws.Layout.{length-item_bytes}
 

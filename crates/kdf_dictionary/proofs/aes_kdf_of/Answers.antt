@@ -23,9 +23,9 @@ place_in-seed-requires c =
     let w = item_within c.args.d.now salt_name 0x42 c.item_of-q.result c.item_of-q.ensures in
     search rules
 
-pub returns : goal.returns
+pub returns-then-q-ne32 : goal.returns-then-q-ne32
 unfolding aes_kdf_of aes_kdf_in
-returns c =
+returns-then-q-ne32 c =
     rw (← c.item_of-q.ensures, ne_eqb _ 32 c.if-q-ne32.true, c.fault_at.ensures)
 
 pub returns-then-r-eq0 : goal.returns-then-r-eq0
@@ -55,7 +55,7 @@ decided d p q r n s o long there e = rw (← s, ← o, eq-eqb _ 32 long, ne_eqb 
 pub returns-then-rounds_suffice : goal.returns-then-rounds_suffice
 returns-then-rounds_suffice c =
     rw (
-      c.IsPlace-in.ensures,
+      c.place_in-seed.ensures,
       decided _ c.args.p _ _ _ c.item_of-q.ensures
           c.item_of-r.ensures c.if-q-ne32.false c.if-r-eq0.false c.u64_at-rounds.ensures,
       sym c.rounds_fit.ensures ∙ c.if-rounds_fit.true,

@@ -5,15 +5,10 @@ use Rattle.kdf_dictionary.proofs.argon2_items.Goals as goal
 pub returns : goal.returns
 unfolding argon2_items
 returns c =
-    let l = c in
-    let m = l in
-    let i = m in
-    let s = i in
-    let v = s in
     rw (
-      l.item-of5.ensures,
-      m.item-of4.ensures,
-      i.item-of3.ensures,
-      s.item-of2.ensures,
-      v.item_of.ensures,
+      c.item_of-lanes.ensures,
+      c.item_of-memory.ensures,
+      c.item_of-passes.ensures,
+      c.item_of-salt.ensures,
+      c.item_of-version.ensures,
     )

@@ -1,7 +1,6 @@
 -- `kdf_dictionary::fault_at` meets its contract. Assumes nothing.
 use mathlib.Core.Path.{sym, ◌∙◌}
 use native.Mathlib.Omega.{arith}
-use lib.ListN.{length}
 use Rattle.kdf_dictionary.specs.KdfDictionary.{fault_in}
 use Rattle.kdf_dictionary.proofs.Laws.Items.{found_within}
 use borrow.Author.Rules.{rules}

@@ -8,7 +8,7 @@ unfolding argon2_figures
 returns-then-argon2_figures_fit c =
     rw (
       c.kdf_of.ensures,
-      c.IsPlace-in.ensures,
+      c.place_in-salt.ensures,
       ← c.u32_at-lanes.ensures,
       ← c.u64_at-memory.ensures,
       ← c.u64_at-passes.ensures,

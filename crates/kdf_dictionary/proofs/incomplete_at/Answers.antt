@@ -3,9 +3,9 @@ use borrow.Author.Tests.{eq-eqb, ne_eqb}
 use Rattle.kdf_dictionary.specs.KdfDictionary.{incomplete}
 use Rattle.kdf_dictionary.proofs.incomplete_at.Goals as goal
 
-pub returns : goal.returns
+pub returns-then-i-eq0 : goal.returns-then-i-eq0
 unfolding incomplete
-returns c = rw (eq-eqb _ 0 c.if-i-eq0.true) c.fault_at.ensures
+returns-then-i-eq0 c = rw (eq-eqb _ 0 c.if-i-eq0.true) c.fault_at.ensures
 
 pub returns-then-i-eq0-2 : goal.returns-then-i-eq0-2
 unfolding incomplete

@@ -4,9 +4,9 @@ use borrow.Author.Tests.{eq-eqb, ne_eqb}
 use Rattle.kdf_dictionary.specs.KdfDictionary.{argon2_listed}
 use Rattle.kdf_dictionary.proofs.is_listed.Goals as goal
 
-pub returns : goal.returns
+pub returns-then-has_item : goal.returns-then-has_item
 unfolding argon2_listed
-returns c =
+returns-then-has_item c =
     rw (
       ← c.u32_at.ensures,
       eq-eqb _ 0x13 c.if-u32_at-eq19.true,

@@ -3,9 +3,9 @@ use mathlib.Core.Path.{sym, ◌∙◌}
 use Rattle.kdf_dictionary.specs.KdfDictionary.{outside}
 use Rattle.kdf_dictionary.proofs.outside_at.Goals as goal
 
-pub returns : goal.returns
+pub returns-then-lanes_fit : goal.returns-then-lanes_fit
 unfolding outside
-returns c =
+returns-then-lanes_fit c =
     rw (
       sym c.salt_fits.ensures ∙ c.if-salt_fits.true,
       sym c.passes_fit.ensures ∙ c.if-passes_fit.true,

@@ -1,7 +1,6 @@
 -- `kdf_dictionary::read` meets its contract. A part of the file ends within it, so no place in it is beyond a word.
 -- Assumes nothing.
 use Prim.Native.Nat.{◌^◌}
-use lib.ListN.{length}
 use Rattle.dictionary.proofs.Laws.Within.{part_end_lt, broken_lt, repeated_lt}
 use Rattle.kdf_dictionary.specs.KdfDictionary.{kdf_in, kdf_of}
 use Rattle.words.proofs.Laws.Said.{said_too}

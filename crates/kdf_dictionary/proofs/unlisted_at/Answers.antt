@@ -4,9 +4,9 @@ use borrow.Author.Tests.{eq-eqb, ne_eqb}
 use Rattle.kdf_dictionary.specs.KdfDictionary.{unlisted}
 use Rattle.kdf_dictionary.proofs.unlisted_at.Goals as goal
 
-pub returns : goal.returns
+pub returns-then-has_item : goal.returns-then-has_item
 unfolding unlisted
-returns c =
+returns-then-has_item c =
     rw (
       ← c.u32_at.ensures,
       eq-eqb _ 0x13 c.if-u32_at-eq19.true,

@@ -3,9 +3,9 @@ use borrow.Author.Tests.{eq-eqb, ne_eqb}
 use Rattle.kdf_dictionary.specs.KdfDictionary.{uuid_in, uuid_of}
 use Rattle.kdf_dictionary.proofs.uuid_of.Goals as goal
 
-pub returns : goal.returns
+pub returns-then-q-ne16 : goal.returns-then-q-ne16
 unfolding uuid_of uuid_in
-returns c =
+returns-then-q-ne16 c =
     rw (← c.item_of-q.ensures, ne_eqb _ 16 c.if-q-ne16.true, c.fault_at.ensures)
 
 pub returns : goal.returns

@@ -7,5 +7,5 @@ use Rattle.kdf_dictionary.proofs.writer.write_front.Goals as goal
 
 pub returns : goal.returns
 returns c =
-    let long_id : length c.args.t1 ≡ 16 = search rules in
-    front_laid c.args.t1 long_id c.args.out.now _ _ c.put.ensures c.put_item.ensures
+    let long_id : length c.args.id ≡ 16 = search rules in
+    front_laid c.args.id long_id c.args.out.now _ _ c.put.ensures c.put_item.ensures
