@@ -311,6 +311,7 @@ fn outside_at(d: &[u8], p: Place, salt: usize, passes: u64, memory: u64, lanes: 
 }
 
 // Whether Argon2 is of version 0x13, with no secret and no associated data.
+#[tactic(auto, unfolding(crate::specs::KdfDictionary::argon2_listed))]
 fn is_listed(d: &[u8], version: Place) -> bool
     ensures { result ≡ kdbx4.argon2_listed d.now version }
 {
