@@ -6,9 +6,10 @@
 // whose cases are data has them in its stored stdin, which the same script writes; `table` reads them. Of what is
 // filled and printed nothing is promised but that each function is safe and ends: the output is compared.
 #![tactic(auto)]
+
 ghost use Rattle.std.specs.Prelude.{◌≡◌, ◌<◌, min, length, take, drop};
 
-use libc::STDOUT_FILENO;
+use std::io;
 
 pub mod table;
 
@@ -92,26 +93,29 @@ pub fn next_size(size: usize, longest: u8) -> usize
 }
 
 // A row of the output.
-pub fn row(name: &[u8], form: &[u8], length: usize, number: u8, res: &[u8]) {
-    io::write_all(STDOUT_FILENO, name);
-    io::write_all(STDOUT_FILENO, b" ");
-    io::write_all(STDOUT_FILENO, form);
-    io::write_all(STDOUT_FILENO, b" ");
-    io::print_decimal(STDOUT_FILENO, length as u64);
-    io::write_all(STDOUT_FILENO, b" ");
-    io::print_decimal(STDOUT_FILENO, number as u64);
-    io::write_all(STDOUT_FILENO, b" ");
-    digits(res);
-    io::write_all(STDOUT_FILENO, b"\n");
+pub fn row(
+    rt: &impl Print,
+    name: &[u8],
+    form: &[u8],
+    length: usize,
+    number: u8,
+    res: &[u8],
+) -> io::Result<()> {
+    rt.write_all(name)?;
+    rt.write_all(b" ")?;
+    rt.write_all(form)?;
+    print!(rt; " {length} {number} ")?;
+    digits(rt, res)?;
+    rt.write_all(b"\n")
 }
 
 // Bytes in lower-case hexadecimal.
-fn digits(bytes: &[u8]) {
-    let mut i: usize = 0;
-    while i < bytes.len() {
-        io::print_hex(STDOUT_FILENO, wide(bytes[i]), 2);
-        i += 1;
+fn digits(rt: &impl Print, bytes: &[u8]) -> io::Result<()> {
+    for b in bytes {
+        let n = wide(*b);
+        print!(rt; "{n:02x}")?;
     }
+    Ok(())
 }
 
 // A byte as a number that prints.
