@@ -44,8 +44,8 @@ fn read_some<R: Read>(from: &mut R, buf: &mut [u8]) -> usize
 }
 
 // Reads standard input as far as `buf` has room.
-pub fn read_input(rt: &HostRuntime, buf: &mut [u8]) -> usize
+pub fn read_input(rt: &impl Input, buf: &mut [u8]) -> usize
     ensures { result ≤ length buf.new }
 {
-    read_full(&mut rt.stdin(), buf)
+    read_full(&mut rt.reader(), buf)
 }

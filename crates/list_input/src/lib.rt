@@ -7,15 +7,15 @@
 #![tactic(auto)]
 ghost use Rattle.std.specs.Prelude.{◌≡◌, length};
 
-use libc::{STDIN_FILENO, STDOUT_FILENO};
 use refusals::Written;
+use std::io;
 
 // Lists the header of the file on standard input.
-pub fn list_input() {
+pub fn list_input(rt: &(impl Input + Print)) -> io::Result<()> {
     let mut file = input();
-    let n = io::read_full(STDIN_FILENO, &mut file);
+    let n = console::read_input(rt, &mut file);
     let mut text = room();
-    show(&file[..n], &mut text);
+    show(rt, &file[..n], &mut text)
 }
 
 // One byte more than the longest input, so that a longer one is seen to be longer.
@@ -33,11 +33,9 @@ fn room() -> [u8; 196_608]
 }
 
 // Writes the text of a file to standard output.
-fn show(file: &[u8], text: &mut [u8]) {
+fn show(rt: &impl Print, file: &[u8], text: &mut [u8]) -> io::Result<()> {
     match listing::list(file, text) {
-        Written::Wrote(n) => {
-            io::write_all(STDOUT_FILENO, slices::part(text, 0, n));
-        }
-        Written::Refused(_) => {}
+        Written::Wrote(n) => rt.write_all(slices::part(text, 0, n)),
+        Written::Refused(_) => Ok(()),
     }
 }

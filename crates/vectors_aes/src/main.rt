@@ -8,16 +8,19 @@
 // short for a block; `-next`, the ciphertext block that what follows is chained to; `back`, the message, encrypted in
 // parts and decrypted in one call. tools/vectors_aes.py writes the stored stdout with OpenSSL.
 #![tactic(auto)]
+
+use std::io;
+
 mod blocks;
 mod examples;
 mod runs;
 
-fn main() {
-    examples::block();
-    examples::key_expansion();
-    examples::modes();
-    blocks::random_blocks();
-    blocks::repeated_blocks();
+fn main(rt: HostRuntime) -> io::Result<()> {
+    examples::block(&rt)?;
+    examples::key_expansion(&rt)?;
+    examples::modes(&rt)?;
+    blocks::random_blocks(&rt)?;
+    blocks::repeated_blocks(&rt)?;
     let mut space = [0u8; 300];
-    runs::lengths(&mut space);
+    runs::lengths(&rt, &mut space)
 }

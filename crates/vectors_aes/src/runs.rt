@@ -2,45 +2,47 @@
 ghost use Rattle.std.specs.Prelude.{◌<◌};
 
 use aes::RoundKeys;
+use std::io;
 
 // Every length to that of `space`.
-pub fn lengths(space: &mut [u8]) {
+pub fn lengths(rt: &impl Print, space: &mut [u8]) -> io::Result<()> {
     let mut n: usize = 0;
     while n <= space.len() {
-        forms(&mut space[..n]);
+        forms(rt, &mut space[..n])?;
         n += 1;
     }
+    Ok(())
 }
 
 // A message of the length of `out` in three forms.
-fn forms(out: &mut [u8]) {
-    encrypted(out);
-    decrypted(out);
-    back(out);
+fn forms(rt: &impl Print, out: &mut [u8]) -> io::Result<()> {
+    encrypted(rt, out)?;
+    decrypted(rt, out)?;
+    back(rt, out)
 }
 
 // A message encrypted whole.
-fn encrypted(out: &mut [u8]) {
+fn encrypted(rt: &impl Print, out: &mut [u8]) -> io::Result<()> {
     vectors::pattern(out);
     let next = aes_cbc::encrypt_cbc(keys(), iv(), out);
-    vectors::row(b"aes256-cbc", b"encrypt", out.len(), 0, out);
-    vectors::row(b"aes256-cbc", b"encrypt-next", out.len(), 0, &next);
+    vectors::row(rt, b"aes256-cbc", b"encrypt", out.len(), 0, out)?;
+    vectors::row(rt, b"aes256-cbc", b"encrypt-next", out.len(), 0, &next)
 }
 
 // A message decrypted in parts.
-fn decrypted(out: &mut [u8]) {
+fn decrypted(rt: &impl Print, out: &mut [u8]) -> io::Result<()> {
     vectors::pattern(out);
     let next = decrypt_parts(out);
-    vectors::row(b"aes256-cbc", b"decrypt", out.len(), 0, out);
-    vectors::row(b"aes256-cbc", b"decrypt-next", out.len(), 0, &next);
+    vectors::row(rt, b"aes256-cbc", b"decrypt", out.len(), 0, out)?;
+    vectors::row(rt, b"aes256-cbc", b"decrypt-next", out.len(), 0, &next)
 }
 
 // A message encrypted in parts and decrypted whole.
-fn back(out: &mut [u8]) {
+fn back(rt: &impl Print, out: &mut [u8]) -> io::Result<()> {
     vectors::pattern(out);
     encrypt_parts(out);
     aes_cbc::decrypt_cbc(keys(), iv(), out);
-    vectors::row(b"aes256-cbc", b"back", out.len(), 0, out);
+    vectors::row(rt, b"aes256-cbc", b"back", out.len(), 0, out)
 }
 
 // The round keys by rule.
