@@ -3,6 +3,7 @@
 // Its stored input is the header of document 01's example with zeros behind it, 65,536 bytes in all: the longest that
 // is taken.
 #![tactic(auto)]
+
 use std::io;
 
 fn main(rt: HostRuntime) -> io::Result<()> {

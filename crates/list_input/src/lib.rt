@@ -5,6 +5,7 @@
 // The text is that of `listing::list`. Of what is read and written nothing is promised but that each function is safe
 // and ends: the output of each program is compared.
 #![tactic(auto)]
+
 ghost use Rattle.std.specs.Prelude.{◌≡◌, length};
 
 use refusals::Written;

@@ -3,43 +3,50 @@
 //
 // tools/transform_demo.py writes the stored stdout, with T by OpenSSL.
 #![tactic(auto)]
-use aes_kdf::Transformation;
-use libc::STDOUT_FILENO;
-use refusals::limits::ROUNDS_LIMIT;
 
-fn main() {
+use aes_kdf::Transformation;
+use refusals::limits::ROUNDS_LIMIT;
+use std::io;
+
+fn main(rt: HostRuntime) -> io::Result<()> {
     let mut composite = [0u8; 32];
     vectors::pattern(&mut composite);
     let mut seed = [0u8; 32];
     vectors::random(0, &mut seed);
-    let t = advance(Transformation::start(composite, seed, ROUNDS_LIMIT).next);
+    let t = advance(
+        &rt,
+        Transformation::start(composite, seed, ROUNDS_LIMIT).next,
+    )?;
     let f = t.finish();
     let o = f.outcome;
     let key = f.key;
-    vectors::row(b"transformed", b"demo", t.done as usize, o.number(), &key);
+    vectors::row(
+        &rt,
+        b"transformed",
+        b"demo",
+        t.done as usize,
+        o.number(),
+        &key,
+    )
 }
 
 // A hundred steps of 40,000 rounds, with what is done after each.
-fn advance(t: Transformation) -> Transformation {
+fn advance(rt: &impl Print, t: Transformation) -> io::Result<Transformation> {
     let mut x = t;
     let mut i: u32 = 0;
     while i < 100 {
         let next = x.advance(40_000);
         x = next;
-        show(x.done, x.rounds);
+        show(rt, x.done, x.rounds)?;
         i += 1;
     }
-    x
+    Ok(x)
 }
 
 // A line of the screen.
-fn show(done: u32, rounds: u32) {
-    io::print_decimal(STDOUT_FILENO, done as u64);
-    io::write_all(STDOUT_FILENO, b" of ");
-    io::print_decimal(STDOUT_FILENO, rounds as u64);
-    io::write_all(STDOUT_FILENO, b" rounds, ");
-    io::print_decimal(STDOUT_FILENO, percent(done, rounds));
-    io::write_all(STDOUT_FILENO, b" %\n");
+fn show(rt: &impl Print, done: u32, rounds: u32) -> io::Result<()> {
+    let share = percent(done, rounds);
+    println!(rt; "{done} of {rounds} rounds, {share} %")
 }
 
 // The share that is done, in whole percent: all of no rounds.

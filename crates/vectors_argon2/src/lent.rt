@@ -1,5 +1,5 @@
 // The lent memory: what stands in it before a run, and what of that is seen after it.
-use libc::STDOUT_FILENO;
+use std::io;
 
 // Fills the memory by rule.
 pub fn fill(memory: &mut [u64]) {
@@ -16,14 +16,12 @@ fn word(i: usize) -> u64 {
 }
 
 // The row of a case: how many words at the front are zeros, and how many at the end are as `fill` left them.
-pub fn row(name: &[u8], memory: &[u64]) {
-    io::write_all(STDOUT_FILENO, b"memory ");
-    io::write_all(STDOUT_FILENO, name);
-    io::write_all(STDOUT_FILENO, b" ");
-    io::print_decimal(STDOUT_FILENO, zeros(memory) as u64);
-    io::write_all(STDOUT_FILENO, b" ");
-    io::print_decimal(STDOUT_FILENO, kept(memory) as u64);
-    io::write_all(STDOUT_FILENO, b"\n");
+pub fn row(rt: &impl Print, name: &[u8], memory: &[u64]) -> io::Result<()> {
+    let zeros = zeros(memory);
+    let kept = kept(memory);
+    rt.write_all(b"memory ")?;
+    rt.write_all(name)?;
+    println!(rt; " {zeros} {kept}")
 }
 
 // How many words at the front are zeros.

@@ -5,23 +5,25 @@
 // has none either, because the static library takes no other password than the 32 bytes of a composite key, and neither
 // secret nor associated data. What is answered there stands in the contract (argon2, specs/Run, `outcome`).
 use argon2::Kind;
+use std::io;
 use vectors::first;
 
 // Both of them, of a byte repeated.
-pub fn rows(b: u8, memory: &mut [u64]) {
+pub fn rows(rt: &impl Print, b: u8, memory: &mut [u64]) -> io::Result<()> {
     let long = [b; 2_796_187];
-    run(&long, memory);
+    run(rt, &long, memory)
 }
 
 // Both rows, in the first 1,024 words of `memory`.
-fn run(long: &[u8], memory: &mut [u64]) {
+fn run(rt: &impl Print, long: &[u8], memory: &mut [u64]) -> io::Result<()> {
     if 1_024 <= memory.len() {
-        within(long, &mut memory[..1_024]);
+        within(rt, long, &mut memory[..1_024])?;
     }
+    Ok(())
 }
 
 // Both rows, in a memory that is filled by rule before.
-fn within(long: &[u8], memory: &mut [u64]) {
+fn within(rt: &impl Print, long: &[u8], memory: &mut [u64]) -> io::Result<()> {
     let mut out = [0x5au8; 32];
     crate::lent::fill(memory);
     let o = argon2::hash(
@@ -36,6 +38,6 @@ fn within(long: &[u8], memory: &mut [u64]) {
         memory,
         &mut out,
     );
-    vectors::row(b"hash", b"long-message", 32, o.number(), &out);
-    crate::lent::row(b"long-message", memory);
+    vectors::row(rt, b"hash", b"long-message", 32, o.number(), &out)?;
+    crate::lent::row(rt, b"long-message", memory)
 }

@@ -7,20 +7,21 @@
 // name zeros kept`: how many lent words are zeros at the front, and how many at the end hold what they held before.
 // The rows of `long-message` stand behind those of the lines. tools/vectors_argon2.py writes both, with libargon2.
 #![tactic(auto)]
+
 ghost use Rattle.std.specs.Prelude.{◌≡◌, length};
 
-use libc::STDIN_FILENO;
+use std::io;
 
 mod lent;
 mod long_message;
 mod runs;
 
-fn main() {
+fn main(rt: HostRuntime) -> io::Result<()> {
     let mut space = table();
-    let n = io::read_full(STDIN_FILENO, &mut space);
+    let n = console::read_input(&rt, &mut space);
     let mut memory = room();
-    lines(&space[..n], &mut memory);
-    long_message::rows(b'a', &mut memory);
+    lines(&rt, &space[..n], &mut memory)?;
+    long_message::rows(&rt, b'a', &mut memory)
 }
 
 // Room for all lines.
@@ -38,11 +39,12 @@ fn room() -> [u64; 153_600]
 }
 
 // The rows of each line of a table.
-fn lines(s: &[u8], memory: &mut [u64]) {
+fn lines(rt: &impl Print, s: &[u8], memory: &mut [u64]) -> io::Result<()> {
     let mut at: usize = 0;
     while at < s.len() {
         let end = vectors::table::find(s, at, b'\n');
-        runs::rows(&s[at..end], memory);
+        runs::rows(rt, &s[at..end], memory)?;
         at = end + 1;
     }
+    Ok(())
 }

@@ -1,30 +1,31 @@
 // The rows of a line.
 use argon2::Kind;
+use std::io;
 use vectors::first;
 use vectors::table::{bytes, field, number};
 
 // Both rows of a line: the first words of `memory` are lent, as many as it says.
-pub fn rows(line: &[u8], memory: &mut [u64]) {
+pub fn rows(rt: &impl Print, line: &[u8], memory: &mut [u64]) -> io::Result<()> {
     let n = number(field(line, 10)) as usize;
     if n <= memory.len() {
-        run(line, &mut memory[..n]);
+        run(rt, line, &mut memory[..n])?;
     }
+    Ok(())
 }
 
 // A run in a memory that is filled by rule before.
-fn run(line: &[u8], memory: &mut [u64]) {
+fn run(rt: &impl Print, line: &[u8], memory: &mut [u64]) -> io::Result<()> {
     crate::lent::fill(memory);
-    call(line, memory);
-    crate::lent::row(field(line, 0), memory);
+    call(rt, line, memory)?;
+    crate::lent::row(rt, field(line, 0), memory)
 }
 
 // A call of the function that a line names.
-fn call(line: &[u8], memory: &mut [u64]) {
+fn call(rt: &impl Print, line: &[u8], memory: &mut [u64]) -> io::Result<()> {
     if slices::same(field(line, 1), b"hash") {
-        hash(line, memory);
-        return;
+        return hash(rt, line, memory);
     }
-    transform(line, memory);
+    transform(rt, line, memory)
 }
 
 // The type of its number.
@@ -56,7 +57,7 @@ fn lanes(line: &[u8]) -> u32 {
 }
 
 // The key of a line's composite key.
-fn transform(line: &[u8], memory: &mut [u64]) {
+fn transform(rt: &impl Print, line: &[u8], memory: &mut [u64]) -> io::Result<()> {
     let mut salt = [0u8; 128];
     let s = bytes(field(line, 4), &mut salt);
     let t = argon2::transform(
@@ -70,25 +71,26 @@ fn transform(line: &[u8], memory: &mut [u64]) {
     );
     let o = t.outcome;
     let key = t.key;
-    vectors::row(b"transform", field(line, 0), 32, o.number(), &key);
+    vectors::row(rt, b"transform", field(line, 0), 32, o.number(), &key)
 }
 
 // The tag of a line's inputs.
-fn hash(line: &[u8], memory: &mut [u64]) {
+fn hash(rt: &impl Print, line: &[u8], memory: &mut [u64]) -> io::Result<()> {
     let mut out = [0x5au8; 128];
-    cut(line, memory, &mut out);
+    cut(rt, line, memory, &mut out)
 }
 
 // The tag over the first bytes of `out`, as many as the line says.
-fn cut(line: &[u8], memory: &mut [u64], out: &mut [u8]) {
+fn cut(rt: &impl Print, line: &[u8], memory: &mut [u64], out: &mut [u8]) -> io::Result<()> {
     let n = number(field(line, 11)) as usize;
     if n <= out.len() {
-        tag(line, memory, &mut out[..n]);
+        tag(rt, line, memory, &mut out[..n])?;
     }
+    Ok(())
 }
 
 // The tag over `out`.
-fn tag(line: &[u8], memory: &mut [u64], out: &mut [u8]) {
+fn tag(rt: &impl Print, line: &[u8], memory: &mut [u64], out: &mut [u8]) -> io::Result<()> {
     let mut password = [0u8; 128];
     let mut salt = [0u8; 128];
     let mut secret = [0u8; 128];
@@ -109,5 +111,5 @@ fn tag(line: &[u8], memory: &mut [u64], out: &mut [u8]) {
         memory,
         out,
     );
-    vectors::row(b"hash", field(line, 0), out.len(), o.number(), out);
+    vectors::row(rt, b"hash", field(line, 0), out.len(), o.number(), out)
 }

@@ -7,12 +7,15 @@
 // limit; `past` and `empty`, one byte more there and none. Of `argon2-h`: `fill`, a slice filled with H' of its length.
 // tools/vectors_blake2b.py writes the stored stdout with Python's hashlib.
 #![tactic(auto)]
+
+use std::io;
+
 mod on_blake2b;
 mod on_long;
 
-fn main() {
+fn main(rt: HostRuntime) -> io::Result<()> {
     let mut m = vectors::million(0);
     vectors::pattern(&mut m);
-    on_blake2b::rows(&m);
-    on_long::rows(&m);
+    on_blake2b::rows(&rt, &m)?;
+    on_long::rows(&rt, &m)
 }

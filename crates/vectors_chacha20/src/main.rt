@@ -8,14 +8,17 @@
 // message at position P, of which the last two run over the end of the counter. tools/vectors_chacha20.py writes the
 // stored stdout with OpenSSL.
 #![tactic(auto)]
+
+use std::io;
+
 mod examples;
 mod runs;
 
-fn main() {
-    examples::blocks();
-    examples::encryptions();
+fn main(rt: HostRuntime) -> io::Result<()> {
+    examples::blocks(&rt)?;
+    examples::encryptions(&rt)?;
     let mut space = [0u8; 300];
-    runs::lengths(&mut space);
-    runs::borders(&mut space);
-    runs::far(&mut space);
+    runs::lengths(&rt, &mut space)?;
+    runs::borders(&rt, &mut space)?;
+    runs::far(&rt, &mut space)
 }

@@ -1,76 +1,86 @@
 // Messages by rule, under a key and a nonce by rule: the first 32 bytes of the pattern and the 12 behind them.
 use chacha20::ChaCha20;
+use std::io;
 
 // Every length to that of `space`, in four forms.
-pub fn lengths(space: &mut [u8]) {
+pub fn lengths(rt: &impl Print, space: &mut [u8]) -> io::Result<()> {
     let mut n: usize = 0;
     while n <= space.len() {
-        forms(&mut space[..n]);
+        forms(rt, &mut space[..n])?;
         n += 1;
     }
+    Ok(())
 }
 
 // A message of the length of `out` in four forms.
-fn forms(out: &mut [u8]) {
+fn forms(rt: &impl Print, out: &mut [u8]) -> io::Result<()> {
     let odd = words::plus64(61 * ((out.len() % 512) as u64), 1);
-    whole(b"whole", 0, out);
-    parts(b"parts", 0, out);
-    parts(b"odd", odd, out);
-    twice(b"twice", odd, out);
+    whole(rt, b"whole", 0, out)?;
+    parts(rt, b"parts", 0, out)?;
+    parts(rt, b"odd", odd, out)?;
+    twice(rt, b"twice", odd, out)
 }
 
 // A message at positions around a block's border.
-pub fn borders(out: &mut [u8]) {
-    both(b"at1", b"at1-parts", 1, out);
-    both(b"at63", b"at63-parts", 63, out);
-    both(b"at64", b"at64-parts", 64, out);
-    both(b"at65", b"at65-parts", 65, out);
+pub fn borders(rt: &impl Print, out: &mut [u8]) -> io::Result<()> {
+    both(rt, b"at1", b"at1-parts", 1, out)?;
+    both(rt, b"at63", b"at63-parts", 63, out)?;
+    both(rt, b"at64", b"at64-parts", 64, out)?;
+    both(rt, b"at65", b"at65-parts", 65, out)
 }
 
 // A message at positions deep in the stream, the last two before the end of the counter.
-pub fn far(out: &mut [u8]) {
-    both(b"at16383", b"at16383-parts", 16_383, out);
-    both(b"at4194303", b"at4194303-parts", 4_194_303, out);
+pub fn far(rt: &impl Print, out: &mut [u8]) -> io::Result<()> {
+    both(rt, b"at16383", b"at16383-parts", 16_383, out)?;
+    both(rt, b"at4194303", b"at4194303-parts", 4_194_303, out)?;
     both(
+        rt,
         b"at274877906844",
         b"at274877906844-parts",
         274_877_906_844,
         out,
-    );
+    )?;
     both(
+        rt,
         b"at18446744073709551516",
         b"at18446744073709551516-parts",
         18_446_744_073_709_551_516,
         out,
-    );
+    )
 }
 
 // A message at a position, whole and in parts.
-fn both(form: &[u8], form_parts: &[u8], at: u64, out: &mut [u8]) {
-    whole(form, at, out);
-    parts(form_parts, at, out);
+fn both(
+    rt: &impl Print,
+    form: &[u8],
+    form_parts: &[u8],
+    at: u64,
+    out: &mut [u8],
+) -> io::Result<()> {
+    whole(rt, form, at, out)?;
+    parts(rt, form_parts, at, out)
 }
 
 // A message in one call.
-fn whole(form: &[u8], at: u64, out: &mut [u8]) {
+fn whole(rt: &impl Print, form: &[u8], at: u64, out: &mut [u8]) -> io::Result<()> {
     vectors::pattern(out);
     apply(at, out);
-    vectors::row(b"chacha20", form, out.len(), 0, out);
+    vectors::row(rt, b"chacha20", form, out.len(), 0, out)
 }
 
 // A message in parts.
-fn parts(form: &[u8], at: u64, out: &mut [u8]) {
+fn parts(rt: &impl Print, form: &[u8], at: u64, out: &mut [u8]) -> io::Result<()> {
     vectors::pattern(out);
     apply_parts(at, out);
-    vectors::row(b"chacha20", form, out.len(), 0, out);
+    vectors::row(rt, b"chacha20", form, out.len(), 0, out)
 }
 
 // A message in one call, and what that gives in parts.
-fn twice(form: &[u8], at: u64, out: &mut [u8]) {
+fn twice(rt: &impl Print, form: &[u8], at: u64, out: &mut [u8]) -> io::Result<()> {
     vectors::pattern(out);
     apply(at, out);
     apply_parts(at, out);
-    vectors::row(b"chacha20", form, out.len(), 0, out);
+    vectors::row(rt, b"chacha20", form, out.len(), 0, out)
 }
 
 // The stream under the key and the nonce by rule.

@@ -6,17 +6,18 @@
 // its name and what `listing::list` writes, or what `dictionary::lookup` tells. tools/vectors_header.py writes both, by
 // a reader of its own.
 #![tactic(auto)]
+
 ghost use Rattle.std.specs.Prelude.{◌≡◌, length};
 
-use libc::{STDIN_FILENO, STDOUT_FILENO};
 use refusals::Written;
+use std::io;
 use vectors::table::field;
 
-fn main() {
+fn main(rt: HostRuntime) -> io::Result<()> {
     let mut space = table();
-    let n = io::read_full(STDIN_FILENO, &mut space);
+    let n = console::read_input(&rt, &mut space);
     let mut text = room();
-    lines(&space[..n], &mut text);
+    lines(&rt, &space[..n], &mut text)
 }
 
 // Room for all lines.
@@ -41,28 +42,29 @@ fn zeros() -> [u8; 65_537]
 }
 
 // The listing of each line of a table.
-fn lines(s: &[u8], text: &mut [u8]) {
+fn lines(rt: &impl Print, s: &[u8], text: &mut [u8]) -> io::Result<()> {
     let mut at: usize = 0;
     while at < s.len() {
         let end = vectors::table::find(s, at, b'\n');
-        answer(&s[at..end], text);
+        answer(rt, &s[at..end], text)?;
         at = end + 1;
     }
+    Ok(())
 }
 
 // The answer to a line, by whether it has a name to look up.
-fn answer(line: &[u8], text: &mut [u8]) {
+fn answer(rt: &impl Print, line: &[u8], text: &mut [u8]) -> io::Result<()> {
     if vectors::table::is_given(field(line, 3)) {
-        looked(line);
+        looked(rt, line)
     } else {
-        listed(line, text);
+        listed(rt, line, text)
     }
 }
 
 // The name of a line's case, and what is told of a name in its dictionary: `found`, the value's type, and the stretch
 // that is shown; or `none`, and the place of a refusal. The number stands behind the type or place.
-fn looked(line: &[u8]) {
-    let mut space = io::buffer();
+fn looked(rt: &impl Print, line: &[u8]) -> io::Result<()> {
+    let mut space = console::buffer();
     let n = vectors::table::bytes(field(line, 1), &mut space);
     let mut names = [0u8; 32];
     let m = vectors::table::bytes(field(line, 3), &mut names);
@@ -78,33 +80,29 @@ fn looked(line: &[u8]) {
         &mut found,
         &mut kind,
     );
-    io::write_all(STDOUT_FILENO, field(line, 0));
-    io::write_all(STDOUT_FILENO, b"\n");
+    rt.write_all(field(line, 0))?;
+    rt.write_all(b"\n")?;
     if found {
-        vectors::row(b"found", b"type", kind as usize, number, value);
+        vectors::row(rt, b"found", b"type", kind as usize, number, value)
     } else {
-        vectors::row(b"none", b"place", place, number, value);
+        vectors::row(rt, b"none", b"place", place, number, value)
     }
 }
 
 // The name and the listing of a line's file.
-fn listed(line: &[u8], text: &mut [u8]) {
+fn listed(rt: &impl Print, line: &[u8], text: &mut [u8]) -> io::Result<()> {
     let mut file = zeros();
     vectors::table::bytes(field(line, 1), &mut file);
     let n = vectors::table::number(field(line, 2)) as usize;
-    io::write_all(STDOUT_FILENO, field(line, 0));
-    io::write_all(STDOUT_FILENO, b"\n");
-    show(vectors::first(&file, n), text);
+    rt.write_all(field(line, 0))?;
+    rt.write_all(b"\n")?;
+    show(rt, vectors::first(&file, n), text)
 }
 
 // Writes the text of a file to standard output.
-fn show(file: &[u8], text: &mut [u8]) {
+fn show(rt: &impl Print, file: &[u8], text: &mut [u8]) -> io::Result<()> {
     match listing::list(file, text) {
-        Written::Wrote(n) => {
-            io::write_all(STDOUT_FILENO, slices::part(text, 0, n));
-        }
-        Written::Refused(_) => {
-            io::write_all(STDOUT_FILENO, b"no room\n");
-        }
+        Written::Wrote(n) => rt.write_all(slices::part(text, 0, n)),
+        Written::Refused(_) => rt.write_all(b"no room\n"),
     }
 }

@@ -6,21 +6,23 @@
 // and `empty`, one byte more there and none. tools/vectors_hmac.py writes the stored stdout with Python's hmac, that is
 // with OpenSSL.
 #![tactic(auto)]
+
 ghost use Rattle.std.specs.Prelude.{◌<◌};
 
 use hmac::{Hmac, Keyed};
+use std::io;
 
-fn main() {
-    short_keys();
-    long_keys();
+fn main(rt: HostRuntime) -> io::Result<()> {
+    short_keys(&rt)?;
+    long_keys(&rt)?;
     let mut space = vectors::million(0);
     vectors::pattern(&mut space);
-    keys(&space);
-    limit(&space);
+    keys(&rt, &space)?;
+    limit(&rt, &space)
 }
 
 // RFC 4231, cases 1 to 5.
-fn short_keys() {
+fn short_keys(rt: &impl Print) -> io::Result<()> {
     let once = [0x0bu8; 20];
     let twenty = [0xaau8; 20];
     let fifty = [0xddu8; 50];
@@ -28,82 +30,91 @@ fn short_keys() {
     let cut = [0x0cu8; 20];
     let counted =
         b"\x01\x02\x03\x04\x05\x06\x07\x08\x09\x0a\x0b\x0c\x0d\x0e\x0f\x10\x11\x12\x13\x14\x15\x16\x17\x18\x19";
-    whole(b"case1", &once, b"Hi There");
-    whole(b"case2", b"Jefe", b"what do ya want for nothing?");
-    whole(b"case3", &twenty, &fifty);
-    whole(b"case4", counted, &other_fifty);
-    truncated(b"case5", &cut, b"Test With Truncation");
+    whole(rt, b"case1", &once, b"Hi There")?;
+    whole(rt, b"case2", b"Jefe", b"what do ya want for nothing?")?;
+    whole(rt, b"case3", &twenty, &fifty)?;
+    whole(rt, b"case4", counted, &other_fifty)?;
+    truncated(rt, b"case5", &cut, b"Test With Truncation")
 }
 
 // RFC 4231, cases 6 and 7: a key that is hashed first.
-fn long_keys() {
+fn long_keys(rt: &impl Print) -> io::Result<()> {
     let key = [0xaau8; 131];
     whole(
+        rt,
         b"case6",
         &key,
         b"Test Using Larger Than Block-Size Key - Hash Key First",
-    );
+    )?;
     whole(
+        rt,
         b"case7",
         &key,
         b"This is a test using a larger than block-size key and a larger than block-size data. The key needs to be hashed before being used by the HMAC algorithm.",
-    );
+    )
 }
 
 // Keys around a block's length: the bytes of the pattern from 1,000 on.
-fn keys(m: &[u8]) {
+fn keys(rt: &impl Print, m: &[u8]) -> io::Result<()> {
     let key = vectors::after(m, 1_000);
-    lengths(b"key0", b"key0-parts", vectors::first(key, 0), m);
-    lengths(b"key1", b"key1-parts", vectors::first(key, 1), m);
-    lengths(b"key63", b"key63-parts", vectors::first(key, 63), m);
-    lengths(b"key64", b"key64-parts", vectors::first(key, 64), m);
-    lengths(b"key65", b"key65-parts", vectors::first(key, 65), m);
-    lengths(b"key131", b"key131-parts", vectors::first(key, 131), m);
+    lengths(rt, b"key0", b"key0-parts", vectors::first(key, 0), m)?;
+    lengths(rt, b"key1", b"key1-parts", vectors::first(key, 1), m)?;
+    lengths(rt, b"key63", b"key63-parts", vectors::first(key, 63), m)?;
+    lengths(rt, b"key64", b"key64-parts", vectors::first(key, 64), m)?;
+    lengths(rt, b"key65", b"key65-parts", vectors::first(key, 65), m)?;
+    lengths(rt, b"key131", b"key131-parts", vectors::first(key, 131), m)
 }
 
 // The messages of up to 130 bytes, and three longer ones.
-fn lengths(form: &[u8], form_parts: &[u8], key: &[u8], m: &[u8]) {
+fn lengths(
+    rt: &impl Print,
+    form: &[u8],
+    form_parts: &[u8],
+    key: &[u8],
+    m: &[u8],
+) -> io::Result<()> {
     let mut n: usize = 0;
     while n < 131 {
-        both(form, form_parts, key, vectors::first(m, n));
+        both(rt, form, form_parts, key, vectors::first(m, n))?;
         n += 1;
     }
-    both(form, form_parts, key, vectors::first(m, 4_095));
-    both(form, form_parts, key, vectors::first(m, 65_537));
-    both(form, form_parts, key, m);
+    both(rt, form, form_parts, key, vectors::first(m, 4_095))?;
+    both(rt, form, form_parts, key, vectors::first(m, 65_537))?;
+    both(rt, form, form_parts, key, m)
 }
 
 // A message in one call and in parts.
-fn both(form: &[u8], form_parts: &[u8], key: &[u8], m: &[u8]) {
-    whole(form, key, m);
-    parts(form_parts, key, m, m.len() % 7 + 1);
+fn both(rt: &impl Print, form: &[u8], form_parts: &[u8], key: &[u8], m: &[u8]) -> io::Result<()> {
+    whole(rt, form, key, m)?;
+    parts(rt, form_parts, key, m, m.len() % 7 + 1)
 }
 
 // A message in one call.
-fn whole(form: &[u8], key: &[u8], m: &[u8]) {
+fn whole(rt: &impl Print, form: &[u8], key: &[u8], m: &[u8]) -> io::Result<()> {
     let t = hmac::tag(key, m);
     let o = t.outcome;
     let tag = t.tag;
-    vectors::row(b"hmac-sha256", form, m.len(), o.number(), &tag);
+    vectors::row(rt, b"hmac-sha256", form, m.len(), o.number(), &tag)
 }
 
 // The first 16 bytes of the tag.
-fn truncated(form: &[u8], key: &[u8], m: &[u8]) {
+fn truncated(rt: &impl Print, form: &[u8], key: &[u8], m: &[u8]) -> io::Result<()> {
     let t = hmac::tag(key, m);
     let o = t.outcome;
     let tag = t.tag;
     vectors::row(
+        rt,
         b"hmac-sha256",
         form,
         m.len(),
         o.number(),
         vectors::first(&tag, 16),
-    );
+    )
 }
 
 // A message in parts, the first of `first` bytes, the next by the rule of `next_size`; the last is what is left. The
 // number is the last feed's.
-fn parts(form: &[u8], key: &[u8], m: &[u8], first: usize)
+fn parts(rt: &impl Print, form: &[u8], key: &[u8], m: &[u8], first: usize) -> io::Result<()>
     requires { 0 < first }
 {
     let k = Hmac::start(key);
@@ -123,7 +134,7 @@ fn parts(form: &[u8], key: &[u8], m: &[u8], first: usize)
         at = end;
     }
     let tag = t.finish();
-    vectors::row(b"hmac-sha256", form, m.len(), number, &tag);
+    vectors::row(rt, b"hmac-sha256", form, m.len(), number, &tag)
 }
 
 // An empty feed, and a feed of `s`.
@@ -132,14 +143,15 @@ fn fed(t: Hmac, s: &[u8]) -> Keyed {
 }
 
 // The limit of a message: 511 parts of 65,536 bytes; one byte more than the rest, the rest, one byte, and none.
-fn limit(m: &[u8]) {
+fn limit(rt: &impl Print, m: &[u8]) -> io::Result<()> {
     let part = vectors::first(m, 65_536);
     let most = refusals::limits::MESSAGE_LIMIT;
     let t = filled(vectors::first(vectors::after(m, 1_000), 64), part);
-    let a = tried(b"over", most - 65_536, t, vectors::first(m, 65_537));
-    let b = tried(b"limit", most, a, part);
-    let c = tried(b"past", most, b, vectors::first(m, 1));
-    tried(b"empty", most, c, vectors::first(m, 0));
+    let a = tried(rt, b"over", most - 65_536, t, vectors::first(m, 65_537))?;
+    let b = tried(rt, b"limit", most, a, part)?;
+    let c = tried(rt, b"past", most, b, vectors::first(m, 1))?;
+    tried(rt, b"empty", most, c, vectors::first(m, 0))?;
+    Ok(())
 }
 
 // The state after 511 feeds of `part`.
@@ -155,11 +167,11 @@ fn filled(key: &[u8], part: &[u8]) -> Hmac {
 }
 
 // The number that a feed of `s` answers, and the tag that the state then has, which is of `length` bytes.
-fn tried(form: &[u8], length: usize, t: Hmac, s: &[u8]) -> Hmac {
+fn tried(rt: &impl Print, form: &[u8], length: usize, t: Hmac, s: &[u8]) -> io::Result<Hmac> {
     let f = t.feed(s);
     let o = f.outcome;
     let next = f.next;
     let tag = next.finish();
-    vectors::row(b"hmac-sha256", form, length, o.number(), &tag);
-    next
+    vectors::row(rt, b"hmac-sha256", form, length, o.number(), &tag)?;
+    Ok(next)
 }

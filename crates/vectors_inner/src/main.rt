@@ -10,48 +10,49 @@
 // 16,777,216 bytes, and one over it do not fit the usual stack: tests/differential runs these over the static library.
 // tools/vectors_inner.py writes stdin and stdout, with readings and hashes of its own.
 #![tactic(auto)]
-use libc::STDIN_FILENO;
+
+use std::io;
 use vectors::table::field;
 
 mod reading;
 mod writing;
 
-fn main() {
+fn main(rt: HostRuntime) -> io::Result<()> {
     let mut space = vectors::million(0);
-    let n = io::read_full(STDIN_FILENO, &mut space);
-    lines(&space[..n]);
-    long(0);
+    let n = console::read_input(&rt, &mut space);
+    lines(&rt, &space[..n])?;
+    long(&rt, 0)
 }
 
 // The rows of each line of a table.
-fn lines(s: &[u8]) {
+fn lines(rt: &impl Print, s: &[u8]) -> io::Result<()> {
     let mut at: usize = 0;
     while at < s.len() {
         let end = vectors::table::find(s, at, b'\n');
-        case(&s[at..end]);
+        case(rt, &s[at..end])?;
         at = end + 1;
     }
+    Ok(())
 }
 
 // The rows of a line.
-fn case(line: &[u8]) {
+fn case(rt: &impl Print, line: &[u8]) -> io::Result<()> {
     if slices::same(field(line, 0), b"read") {
-        reading::line(line);
-        return;
+        return reading::line(rt, line);
     }
-    writing::line(line);
+    writing::line(rt, line)
 }
 
 // A long payload, of a byte repeated.
-fn long(b: u8) {
+fn long(rt: &impl Print, b: u8) -> io::Result<()> {
     let mut payload = [b; 4_194_305];
-    long_rows(&mut payload);
+    long_rows(rt, &mut payload)
 }
 
 // The least header in front of a document of zeros: an algorithm, an empty key, the end. It is read; and so many bytes
 // are written as a document, to an output of none.
-fn long_rows(payload: &mut [u8]) {
+fn long_rows(rt: &impl Print, payload: &mut [u8]) -> io::Result<()> {
     slices::copy(payload, b"\x01\x04\x00\x00\x00\x03\x00\x00\x00\x02");
-    reading::rows(b"long", payload);
-    writing::row(b"long", 3, b"", payload);
+    reading::rows(rt, b"long", payload)?;
+    writing::row(rt, b"long", 3, b"", payload)
 }

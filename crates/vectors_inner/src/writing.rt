@@ -2,10 +2,11 @@
 ghost use Rattle.std.specs.Prelude.{◌<◌};
 
 use refusals::Written;
+use std::io;
 use vectors::table::{bytes, field, number};
 
 // The row of a line's parts.
-pub fn line(line: &[u8]) {
+pub fn line(rt: &impl Print, line: &[u8]) -> io::Result<()> {
     let mut key = [0u8; 64];
     let mut run = [0u8; 64];
     let mut document = [0u8; 64];
@@ -21,21 +22,27 @@ pub fn line(line: &[u8]) {
         vectors::first(&document, d),
         &mut out[..room],
     );
-    show(field(line, 1), w, &out);
+    show(rt, field(line, 1), w, &out)
 }
 
 // The row of a writing to an output of no bytes.
-pub fn row(name: &[u8], algorithm: u32, run: &[u8], document: &[u8]) {
+pub fn row(
+    rt: &impl Print,
+    name: &[u8],
+    algorithm: u32,
+    run: &[u8],
+    document: &[u8],
+) -> io::Result<()> {
     let mut out = [0xEEu8; 64];
     let w = inner_header::writer::write(algorithm, b"", run, document, &mut out[..0]);
-    show(name, w, &out);
+    show(rt, name, w, &out)
 }
 
 // The length written, or the refusal's place and number; and the whole output.
-fn show(name: &[u8], w: Written, out: &[u8; 64]) {
+fn show(rt: &impl Print, name: &[u8], w: Written, out: &[u8; 64]) -> io::Result<()> {
     match w {
-        Written::Refused(r) => vectors::row(b"write", name, r.place(), r.number(), out),
-        Written::Wrote(n) => vectors::row(b"write", name, n, 0, out),
+        Written::Refused(r) => vectors::row(rt, b"write", name, r.place(), r.number(), out),
+        Written::Wrote(n) => vectors::row(rt, b"write", name, n, 0, out),
     }
 }
 

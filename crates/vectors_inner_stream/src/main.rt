@@ -22,17 +22,20 @@
 //   closed            after a refused start
 // tools/vectors_inner_stream.py writes the stored stdout, with libsodium and OpenSSL.
 #![tactic(auto)]
+
+use std::io;
+
 mod carried;
 mod runs;
 
-fn main() {
-    runs::lengths(b"salsa20", 2);
-    runs::lengths(b"chacha20", 3);
-    runs::forms(b"salsa20", 2);
-    runs::forms(b"chacha20", 3);
-    runs::others();
-    carried::stretches(b"salsa20", 2);
-    carried::stretches(b"chacha20", 3);
-    carried::others();
-    runs::limits(0x6b);
+fn main(rt: HostRuntime) -> io::Result<()> {
+    runs::lengths(&rt, b"salsa20", 2)?;
+    runs::lengths(&rt, b"chacha20", 3)?;
+    runs::forms(&rt, b"salsa20", 2)?;
+    runs::forms(&rt, b"chacha20", 3)?;
+    runs::others(&rt)?;
+    carried::stretches(&rt, b"salsa20", 2)?;
+    carried::stretches(&rt, b"chacha20", 3)?;
+    carried::others(&rt)?;
+    runs::limits(&rt, 0x6b)
 }

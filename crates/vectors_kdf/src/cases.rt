@@ -1,19 +1,21 @@
 // What is transformed.
 use crate::transformed::{advance, finish, shown, start, whole};
 use aes_kdf::Transformation;
+use std::io;
 use vectors::table::{array, field};
 
 // The vault of a line, of up to 100,000 rounds, in steps of 1,000.
-pub fn vault(line: &[u8]) {
+pub fn vault(rt: &impl Print, line: &[u8]) -> io::Result<()> {
     let rounds = vectors::table::number(field(line, 3));
     whole(
+        rt,
         field(line, 0),
         array(field(line, 1)),
         array(field(line, 2)),
         rounds,
         100,
         1_000,
-    );
+    )
 }
 
 // The composite key by rule.
@@ -31,38 +33,45 @@ fn seed() -> [u8; 32] {
 }
 
 // 100,000 rounds in steps of several sizes, and how the halves stand after each of some large ones.
-pub fn steps() {
-    by(b"by-1", 100_000, 1);
-    by(b"by-7", 14_286, 7);
-    by(b"by-999", 101, 999);
-    by(b"by-65536", 2, 65_536);
-    by(b"by-100000", 1, 100_000);
-    by(b"by-18446744073709551615", 1, 18_446_744_073_709_551_615);
+pub fn steps(rt: &impl Print) -> io::Result<()> {
+    by(rt, b"by-1", 100_000, 1)?;
+    by(rt, b"by-7", 14_286, 7)?;
+    by(rt, b"by-999", 101, 999)?;
+    by(rt, b"by-65536", 2, 65_536)?;
+    by(rt, b"by-100000", 1, 100_000)?;
+    by(
+        rt,
+        b"by-18446744073709551615",
+        1,
+        18_446_744_073_709_551_615,
+    )?;
     shown(
+        rt,
         b"by-30000",
-        start(b"by-30000", composite(), seed(), 100_000),
+        start(rt, b"by-30000", composite(), seed(), 100_000)?,
         5,
         30_000,
-    );
+    )
 }
 
 // 100,000 rounds in steps of one size.
-fn by(form: &[u8], n: u64, step: u64) {
-    whole(form, composite(), seed(), 100_000, n, step);
+fn by(rt: &impl Print, form: &[u8], n: u64, step: u64) -> io::Result<()> {
+    whole(rt, form, composite(), seed(), 100_000, n, step)
 }
 
 // Two hundred pseudo-random composite keys, seeds and rounds.
-pub fn random_figures() {
+pub fn random_figures(rt: &impl Print) -> io::Result<()> {
     let mut state: u64 = 2;
     let mut i: usize = 0;
     while i < 200 {
-        state = random(state);
+        state = random(rt, state)?;
         i += 1;
     }
+    Ok(())
 }
 
 // A pseudo-random composite key, seed and rounds, in three steps, and the generator's state behind them.
-fn random(state: u64) -> u64 {
+fn random(rt: &impl Print, state: u64) -> io::Result<u64> {
     let mut composite = [0u8; 32];
     let mut seed = [0u8; 32];
     let mut four = [0u8; 4];
@@ -70,41 +79,42 @@ fn random(state: u64) -> u64 {
     let y = vectors::random(x, &mut seed);
     let z = vectors::random(y, &mut four);
     let rounds = (words::be::u32_at(&four, 0) as u64) % 2_001;
-    whole(b"random", composite, seed, rounds, 3, rounds / 3 + 1);
-    z
+    whole(rt, b"random", composite, seed, rounds, 3, rounds / 3 + 1)?;
+    Ok(z)
 }
 
 // No round, one, two, two thousand, and ten that are looked at on the way.
-pub fn few_rounds() {
-    finish(b"rounds", start(b"rounds", composite(), seed(), 0));
-    whole(b"rounds", composite(), seed(), 1, 1, 1);
-    whole(b"rounds", composite(), seed(), 2, 2, 1);
-    whole(b"rounds", composite(), seed(), 2_000, 2, 1_999);
-    early(start(b"rounds", composite(), seed(), 10));
+pub fn few_rounds(rt: &impl Print) -> io::Result<()> {
+    finish(rt, b"rounds", start(rt, b"rounds", composite(), seed(), 0)?)?;
+    whole(rt, b"rounds", composite(), seed(), 1, 1, 1)?;
+    whole(rt, b"rounds", composite(), seed(), 2, 2, 1)?;
+    whole(rt, b"rounds", composite(), seed(), 2_000, 2, 1_999)?;
+    early(rt, start(rt, b"rounds", composite(), seed(), 10)?)
 }
 
 // T of ten rounds, asked for before the first, before the last, after a step of no rounds, and at the end.
-fn early(t: Transformation) {
-    finish(b"rounds", t);
+fn early(rt: &impl Print, t: Transformation) -> io::Result<()> {
+    finish(rt, b"rounds", t)?;
     let nine = advance(t, 3, 3);
-    finish(b"rounds", nine);
+    finish(rt, b"rounds", nine)?;
     let same = advance(nine, 1, 0);
-    finish(b"rounds", same);
-    finish(b"rounds", advance(same, 2, 1));
+    finish(rt, b"rounds", same)?;
+    finish(rt, b"rounds", advance(same, 2, 1))
 }
 
 // The most rounds; one more, so many that their low 32 bits are 0 and 1, and the most that 64 bits hold.
-pub fn refusals() {
-    start(b"rounds", composite(), seed(), 4_000_000);
-    whole(b"rounds", composite(), seed(), 4_000_001, 1, 1_000);
-    whole(b"rounds", composite(), seed(), 0x1_0000_0000, 1, 1_000);
-    whole(b"rounds", composite(), seed(), 0x1_0000_0001, 1, 1_000);
+pub fn refusals(rt: &impl Print) -> io::Result<()> {
+    start(rt, b"rounds", composite(), seed(), 4_000_000)?;
+    whole(rt, b"rounds", composite(), seed(), 4_000_001, 1, 1_000)?;
+    whole(rt, b"rounds", composite(), seed(), 0x1_0000_0000, 1, 1_000)?;
+    whole(rt, b"rounds", composite(), seed(), 0x1_0000_0001, 1, 1_000)?;
     whole(
+        rt,
         b"rounds",
         composite(),
         seed(),
         0xffff_ffff_ffff_ffff,
         1,
         1_000,
-    );
+    )
 }

@@ -6,27 +6,29 @@
 // N; `random`, pseudo-random figures with up to 2,000 rounds; `rounds`, figures by rule. Standard input has a line for
 // each vault: its name, composite key, KDF seed and rounds. tools/vectors_kdf.py writes stdin and stdout, with OpenSSL.
 #![tactic(auto)]
-use libc::STDIN_FILENO;
+
+use std::io;
 
 mod cases;
 mod transformed;
 
-fn main() {
-    let mut space = io::large_buffer();
-    let n = io::read_full(STDIN_FILENO, &mut space);
-    lines(&space[..n]);
-    cases::steps();
-    cases::random_figures();
-    cases::few_rounds();
-    cases::refusals();
+fn main(rt: HostRuntime) -> io::Result<()> {
+    let mut space = console::large_buffer();
+    let n = console::read_input(&rt, &mut space);
+    lines(&rt, &space[..n])?;
+    cases::steps(&rt)?;
+    cases::random_figures(&rt)?;
+    cases::few_rounds(&rt)?;
+    cases::refusals(&rt)
 }
 
 // The rows of each line of a table.
-fn lines(s: &[u8]) {
+fn lines(rt: &impl Print, s: &[u8]) -> io::Result<()> {
     let mut at: usize = 0;
     while at < s.len() {
         let end = vectors::table::find(s, at, b'\n');
-        cases::vault(&s[at..end]);
+        cases::vault(rt, &s[at..end])?;
         at = end + 1;
     }
+    Ok(())
 }

@@ -7,25 +7,27 @@
 // and transformed key, which is absent where the vault has none within the limits. tools/vectors_keys.py writes stdin
 // and stdout, with Python's hashlib, that is with OpenSSL.
 #![tactic(auto)]
-use libc::STDIN_FILENO;
+
+use std::io;
 
 mod credentials;
 mod vault;
 
-fn main() {
-    let mut space = io::large_buffer();
-    let n = io::read_full(STDIN_FILENO, &mut space);
-    lines(&space[..n]);
-    credentials::kinds();
-    credentials::limits(b'a');
+fn main(rt: HostRuntime) -> io::Result<()> {
+    let mut space = console::large_buffer();
+    let n = console::read_input(&rt, &mut space);
+    lines(&rt, &space[..n])?;
+    credentials::kinds(&rt)?;
+    credentials::limits(&rt, b'a')
 }
 
 // The rows of each line of a table.
-fn lines(s: &[u8]) {
+fn lines(rt: &impl Print, s: &[u8]) -> io::Result<()> {
     let mut at: usize = 0;
     while at < s.len() {
         let end = vectors::table::find(s, at, b'\n');
-        vault::keys_of(&s[at..end]);
+        vault::keys_of(rt, &s[at..end])?;
         at = end + 1;
     }
+    Ok(())
 }

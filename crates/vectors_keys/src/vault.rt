@@ -1,40 +1,43 @@
 // The rows of a vault.
+use std::io;
 use vectors::table::{array, field, is_given};
 
 // All keys of the vault of a line.
-pub fn keys_of(line: &[u8]) {
+pub fn keys_of(rt: &impl Print, line: &[u8]) -> io::Result<()> {
     let name = field(line, 0);
     let mut password = [0u8; 64];
     let mut key_file = [0u8; 64];
     let p = vectors::table::bytes(field(line, 1), &mut password);
     let k = vectors::table::bytes(field(line, 2), &mut key_file);
     let key = crate::credentials::composite(
+        rt,
         name,
         vectors::first(&password, p),
         is_given(field(line, 1)),
         vectors::first(&key_file, k),
         is_given(field(line, 2)),
-    );
-    crate::credentials::pre_hash(name, &key);
+    )?;
+    crate::credentials::pre_hash(rt, name, &key)?;
     if is_given(field(line, 4)) {
-        transformed(name, array(field(line, 3)), array(field(line, 4)));
+        transformed(rt, name, array(field(line, 3)), array(field(line, 4)))?;
     }
+    Ok(())
 }
 
 // The keys that follow from the master seed and the transformed key.
-fn transformed(name: &[u8], seed: [u8; 32], t: [u8; 32]) {
+fn transformed(rt: &impl Print, name: &[u8], seed: [u8; 32], t: [u8; 32]) -> io::Result<()> {
     let c = keys::cipher_key(seed, t);
-    vectors::row(b"cipher-key", name, 64, 0, &c);
+    vectors::row(rt, b"cipher-key", name, 64, 0, &c)?;
     let base = keys::tag_base(seed, t);
-    vectors::row(b"tag-base", name, 65, 0, &base);
-    tag_key(b"tag-key-0", name, 0, base);
-    tag_key(b"tag-key-1", name, 1, base);
-    tag_key(b"tag-key-2^32", name, 0x1_0000_0000, base);
-    tag_key(b"tag-key-2^64-1", name, 0xffff_ffff_ffff_ffff, base);
+    vectors::row(rt, b"tag-base", name, 65, 0, &base)?;
+    tag_key(rt, b"tag-key-0", name, 0, base)?;
+    tag_key(rt, b"tag-key-1", name, 1, base)?;
+    tag_key(rt, b"tag-key-2^32", name, 0x1_0000_0000, base)?;
+    tag_key(rt, b"tag-key-2^64-1", name, 0xffff_ffff_ffff_ffff, base)
 }
 
 // The tag key of a number.
-fn tag_key(what: &[u8], name: &[u8], i: u64, base: [u8; 64]) {
+fn tag_key(rt: &impl Print, what: &[u8], name: &[u8], i: u64, base: [u8; 64]) -> io::Result<()> {
     let key = keys::tag_key(i, base);
-    vectors::row(what, name, 72, 0, &key);
+    vectors::row(rt, what, name, 72, 0, &key)
 }

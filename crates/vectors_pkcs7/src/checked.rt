@@ -1,34 +1,39 @@
 // The rows of the check.
 ghost use Rattle.std.specs.Prelude.{◌<◌};
 
+use std::io;
+
 // A piece with padding of each length, right and then changed.
-pub fn paddings() {
+pub fn paddings(rt: &impl Print) -> io::Result<()> {
     let mut n: usize = 0;
     while n < 16 {
-        tried(b"right", padded(n));
-        changed(n);
+        tried(rt, b"right", padded(n))?;
+        changed(rt, n)?;
         n += 1;
     }
+    Ok(())
 }
 
 // Every byte 16 times, and every byte behind 15 that are no padding.
-pub fn bytes() {
+pub fn bytes(rt: &impl Print) -> io::Result<()> {
     let mut v: usize = 0;
     while v < 256 {
-        tried(b"same", [v as u8; 16]);
-        tried(b"last", ending(v as u8));
+        tried(rt, b"same", [v as u8; 16])?;
+        tried(rt, b"last", ending(v as u8))?;
         v += 1;
     }
+    Ok(())
 }
 
 // The padding of a payload of n bytes with each of its bytes changed in turn.
-fn changed(n: usize) {
+fn changed(rt: &impl Print, n: usize) -> io::Result<()> {
     let mut i = n;
     while i < 16 {
-        tried(b"changed", flipped(padded(n), i, 0x01));
-        tried(b"changed", flipped(padded(n), i, 0x80));
+        tried(rt, b"changed", flipped(padded(n), i, 0x01))?;
+        tried(rt, b"changed", flipped(padded(n), i, 0x80))?;
         i += 1;
     }
+    Ok(())
 }
 
 // A payload of n bytes with its padding.
@@ -57,13 +62,14 @@ fn flipped(piece: [u8; 16], at: usize, bits: u8) -> [u8; 16]
 }
 
 // The check's answer on a piece.
-fn tried(form: &[u8], piece: [u8; 16]) {
+fn tried(rt: &impl Print, form: &[u8], piece: [u8; 16]) -> io::Result<()> {
     let found = pkcs7::check(piece);
     vectors::row(
+        rt,
         b"pkcs7",
         form,
         found.value() as usize,
         found.number(),
         &piece,
-    );
+    )
 }

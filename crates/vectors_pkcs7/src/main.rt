@@ -8,13 +8,16 @@
 // times; `last`, a piece of other bytes with every byte at its end. tools/vectors_pkcs7.py writes the stored stdout
 // with the Python package cryptography.
 #![tactic(auto)]
+
+use std::io;
+
 mod checked;
 mod written;
 
-fn main() {
+fn main(rt: HostRuntime) -> io::Result<()> {
     let mut space = [0u8; 72];
-    written::payloads(&mut space);
-    written::rooms(&mut space);
-    checked::paddings();
-    checked::bytes();
+    written::payloads(&rt, &mut space)?;
+    written::rooms(&rt, &mut space)?;
+    checked::paddings(&rt)?;
+    checked::bytes(&rt)
 }

@@ -1,39 +1,43 @@
 // The rows of padding that is written.
+use std::io;
 
 // Every payload of up to 48 bytes, in front of a slice that has room for its padding.
-pub fn payloads(space: &mut [u8]) {
+pub fn payloads(rt: &impl Print, space: &mut [u8]) -> io::Result<()> {
     let mut n: usize = 0;
     while n < 49 {
-        adds(space, n);
-        padded(b"pad", space, n);
+        adds(rt, space, n)?;
+        padded(rt, b"pad", space, n)?;
         n += 1;
     }
+    Ok(())
 }
 
 // A payload of 20 bytes in slices of every length to that of `space`.
-pub fn rooms(space: &mut [u8]) {
+pub fn rooms(rt: &impl Print, space: &mut [u8]) -> io::Result<()> {
     let mut n: usize = 0;
     while n <= space.len() {
-        padded(b"room", &mut space[..n], 20);
+        padded(rt, b"room", &mut space[..n], 20)?;
         n += 1;
     }
+    Ok(())
 }
 
 // How many bytes pad the first n bytes of `out`.
-fn adds(out: &mut [u8], n: usize) {
+fn adds(rt: &impl Print, out: &mut [u8], n: usize) -> io::Result<()> {
     vectors::pattern(out);
     vectors::row(
+        rt,
         b"pkcs7",
         b"adds",
         pkcs7::padding_length(n),
         0,
         vectors::first(out, n),
-    );
+    )
 }
 
 // What stands in `out` after the padding of its first n bytes was written behind them.
-fn padded(form: &[u8], out: &mut [u8], n: usize) {
+fn padded(rt: &impl Print, form: &[u8], out: &mut [u8], n: usize) -> io::Result<()> {
     vectors::pattern(out);
     pkcs7::pad(out, n);
-    vectors::row(b"pkcs7", form, n, 0, out);
+    vectors::row(rt, b"pkcs7", form, n, 0, out)
 }

@@ -7,45 +7,55 @@
 // the counter's first word; `rule-atP`, a key and a nonce by rule. tools/vectors_salsa20.py writes stdin and stdout
 // from the published files, of which libsodium and nettle computed every byte alike.
 #![tactic(auto)]
-use libc::STDIN_FILENO;
+
 use salsa20::Salsa20;
+use std::io;
 use vectors::table::{array, bytes, field, number};
 
-fn main() {
-    let mut space = io::large_buffer();
-    let n = io::read_full(STDIN_FILENO, &mut space);
-    lines(&space[..n]);
+fn main(rt: HostRuntime) -> io::Result<()> {
+    let mut space = console::large_buffer();
+    let n = console::read_input(&rt, &mut space);
+    lines(&rt, &space[..n])
 }
 
 // The row of each line of a table.
-fn lines(s: &[u8]) {
+fn lines(rt: &impl Print, s: &[u8]) -> io::Result<()> {
     let mut at: usize = 0;
     while at < s.len() {
         let end = vectors::table::find(s, at, b'\n');
-        stretch(&s[at..end]);
+        stretch(rt, &s[at..end])?;
         at = end + 1;
     }
+    Ok(())
 }
 
 // The stretch of a line.
-fn stretch(line: &[u8]) {
+fn stretch(rt: &impl Print, line: &[u8]) -> io::Result<()> {
     let mut nonce = [0u8; 8];
     bytes(field(line, 2), &mut nonce);
     let mut out = [0u8; 1_024];
     let n = vectors::least(number(field(line, 4)) as usize, 1_024);
     apply(
+        rt,
         field(line, 0),
         array(field(line, 1)),
         nonce,
         position(field(line, 3)),
         &mut out[..n],
-    );
+    )
 }
 
 // The stream from a position on, over zeros, and its row.
-fn apply(form: &[u8], key: [u8; 32], nonce: [u8; 8], at: u64, zeros: &mut [u8]) {
+fn apply(
+    rt: &impl Print,
+    form: &[u8],
+    key: [u8; 32],
+    nonce: [u8; 8],
+    at: u64,
+    zeros: &mut [u8],
+) -> io::Result<()> {
     Salsa20::apply(key, nonce, at, zeros);
-    vectors::row(b"salsa20", form, zeros.len(), 0, zeros);
+    vectors::row(rt, b"salsa20", form, zeros.len(), 0, zeros)
 }
 
 // A field's number below 2^64, of at most 20 digits: its last two apart, for `number` takes 18.

@@ -9,18 +9,25 @@ use crate::steps::{started, turns};
 use crate::whole::{figure, less, open_in};
 use opening::Opener;
 use refusals::Written;
+use std::io;
 use vectors::table::{bytes, field, number};
 
 // The rows of a line.
-pub fn rows(line: &[u8], t: [u8; 32], length: usize, b: u8) {
+pub fn rows(rt: &impl Print, line: &[u8], t: [u8; 32], length: usize, b: u8) -> io::Result<()> {
     let mut file = [b; 4_194_305];
-    rows_in(line, t, length, &mut file);
+    rows_in(rt, line, t, length, &mut file)
 }
 
 // The rows of a line in room for its file.
-fn rows_in(line: &[u8], t: [u8; 32], length: usize, file: &mut [u8]) {
+fn rows_in(
+    rt: &impl Print,
+    line: &[u8],
+    t: [u8; 32],
+    length: usize,
+    file: &mut [u8],
+) -> io::Result<()> {
     fill(line, file);
-    opened(field(line, 0), vectors::first(file, length), t, 0);
+    opened(rt, field(line, 0), vectors::first(file, length), t, 0)
 }
 
 // Fills the room by rule and with the line's bytes.
@@ -48,41 +55,62 @@ fn lay(at: usize, text: &[u8], file: &mut [u8]) {
 }
 
 // The rows of a file.
-fn opened(name: &[u8], f: &[u8], t: [u8; 32], b: u8) {
+fn opened(rt: &impl Print, name: &[u8], f: &[u8], t: [u8; 32], b: u8) -> io::Result<()> {
     let mut out = [b; 1_050_000];
-    opened_in(name, f, t, &mut out);
+    opened_in(rt, name, f, t, &mut out)
 }
 
 // Opened with all of an output lent, with one byte less than was needed, and by steps.
-fn opened_in(name: &[u8], f: &[u8], t: [u8; 32], out: &mut [u8]) {
-    let n = whole(b"whole", name, f, t, 1_050_000, out);
-    whole(b"less", name, f, t, less(n, 1), out);
-    advance(name, started(name, f, t), f, out);
+fn opened_in(
+    rt: &impl Print,
+    name: &[u8],
+    f: &[u8],
+    t: [u8; 32],
+    out: &mut [u8],
+) -> io::Result<()> {
+    let n = whole(rt, b"whole", name, f, t, 1_050_000, out)?;
+    whole(rt, b"less", name, f, t, less(n, 1), out)?;
+    advance(rt, name, started(rt, name, f, t)?, f, out)
 }
 
 // The row of an opening with so much room; its count.
-fn whole(kind: &[u8], name: &[u8], f: &[u8], t: [u8; 32], room: usize, out: &mut [u8]) -> usize {
+fn whole(
+    rt: &impl Print,
+    kind: &[u8],
+    name: &[u8],
+    f: &[u8],
+    t: [u8; 32],
+    room: usize,
+    out: &mut [u8],
+) -> io::Result<usize> {
     let w = open_in(f, t, out, room);
-    show(kind, name, w, out);
-    w.count()
+    show(rt, kind, name, w, out)?;
+    Ok(w.count())
 }
 
 // Steps until the opening is closed or ended, 8 at most.
-fn advance(name: &[u8], start: Opener, f: &[u8], out: &mut [u8]) {
+fn advance(
+    rt: &impl Print,
+    name: &[u8],
+    start: Opener,
+    f: &[u8],
+    out: &mut [u8],
+) -> io::Result<()> {
     let mut o = start;
     let mut left: usize = turns(start, 8);
     while 0 < left {
         let s = opener::step(o, f, out);
         let answer = s.answer;
         let next = s.next;
-        show(b"step", name, answer, out);
+        show(rt, b"step", name, answer, out)?;
         o = next;
         left = turns(next, left - 1);
     }
+    Ok(())
 }
 
 // The row of an answer, with the bytes at the front of `out` that it counts.
-fn show(kind: &[u8], name: &[u8], w: Written, out: &[u8]) {
+fn show(rt: &impl Print, kind: &[u8], name: &[u8], w: Written, out: &[u8]) -> io::Result<()> {
     let handed = sha256::hash(vectors::first(out, w.count())).digest;
-    vectors::row(kind, name, figure(w), w.number(), &handed);
+    vectors::row(rt, kind, name, figure(w), w.number(), &handed)
 }

@@ -19,40 +19,41 @@
 // the static library.
 // tools/vectors_vault.py writes stdin and stdout, by an opener of its own.
 #![tactic(auto)]
-use libc::STDIN_FILENO;
+
+use std::io;
 use vectors::table::field;
 
 mod large;
 mod steps;
 mod whole;
 
-fn main() {
+fn main(rt: HostRuntime) -> io::Result<()> {
     let mut space = vectors::million(0);
-    let n = io::read_full(STDIN_FILENO, &mut space);
-    lines(&space[..n]);
+    let n = console::read_input(&rt, &mut space);
+    lines(&rt, &space[..n])
 }
 
 // The rows of each line of a table.
-fn lines(s: &[u8]) {
+fn lines(rt: &impl Print, s: &[u8]) -> io::Result<()> {
     let mut at: usize = 0;
     while at < s.len() {
         let end = vectors::table::find(s, at, b'\n');
-        case(&s[at..end]);
+        case(rt, &s[at..end])?;
         at = end + 1;
     }
+    Ok(())
 }
 
 // The rows of a line.
-fn case(line: &[u8]) {
-    let mut space = io::large_buffer();
+fn case(rt: &impl Print, line: &[u8]) -> io::Result<()> {
+    let mut space = console::large_buffer();
     let n = vectors::table::bytes(field(line, 2), &mut space);
     let f = vectors::first(&space, n);
     let t = vectors::table::array(field(line, 1));
     let given = vectors::table::number(field(line, 3)) as usize;
     if n < given {
-        large::rows(line, t, given, 0);
-        return;
+        return large::rows(rt, line, t, given, 0);
     }
-    whole::rows(field(line, 0), f, t);
-    steps::rows(field(line, 0), f, t, vectors::first(f, given));
+    whole::rows(rt, field(line, 0), f, t)?;
+    steps::rows(rt, field(line, 0), f, t, vectors::first(f, given))
 }

@@ -6,6 +6,7 @@ use aes::RoundKeys;
 use opening::{Keys, Opener, Phase, Stepped};
 use refusals::{Outcome, Written};
 use sha256::Sha256;
+use std::io;
 
 // The steps so far: how many, the last one's number, how many bytes were handed over, those bytes, what was answered,
 // and the state.
@@ -20,8 +21,8 @@ struct Run {
 }
 
 // A start with a file, and steps that are given another, or the same.
-pub fn rows(name: &[u8], f: &[u8], t: [u8; 32], given: &[u8]) {
-    let next = started(name, f, t);
+pub fn rows(rt: &impl Print, name: &[u8], f: &[u8], t: [u8; 32], given: &[u8]) -> io::Result<()> {
+    let next = started(rt, name, f, t)?;
     let r = Run {
         calls: 0,
         number: 0,
@@ -30,24 +31,25 @@ pub fn rows(name: &[u8], f: &[u8], t: [u8; 32], given: &[u8]) {
         told: Sha256::start(),
         next,
     };
-    show(name, advance(r, given), given);
+    show(rt, name, advance(r, given), given)
 }
 
 // The state of a start, and its row.
-pub fn started(name: &[u8], f: &[u8], t: [u8; 32]) -> Opener {
+pub fn started(rt: &impl Print, name: &[u8], f: &[u8], t: [u8; 32]) -> io::Result<Opener> {
     let s = vault::start(f, t);
     let outcome = s.outcome;
     let next = s.next;
     let keys = next.keys;
     let base = keys.base;
     vectors::row(
+        rt,
         b"start",
         name,
         start_figure(outcome, next.at),
         outcome.number(),
         &base,
-    );
-    next
+    )?;
+    Ok(next)
 }
 
 // The place of the first block, or that of a refusal.
@@ -145,24 +147,24 @@ fn room_of(k: usize, size: usize) -> usize {
 }
 
 // The rows of all steps, and of one more.
-fn show(name: &[u8], r: Run, f: &[u8]) {
+fn show(rt: &impl Print, name: &[u8], r: Run, f: &[u8]) -> io::Result<()> {
     let handed = r.handed;
     let told = r.told;
     let next = r.next;
     let all_told = told.finish();
-    vectors::row(b"steps", name, r.calls, r.number, &all_told);
+    vectors::row(rt, b"steps", name, r.calls, r.number, &all_told)?;
     let all_handed = handed.finish();
-    vectors::row(b"handed", name, r.total, mark(next), &all_handed);
-    after(name, next, f);
+    vectors::row(rt, b"handed", name, r.total, mark(next), &all_handed)?;
+    after(rt, name, next, f)
 }
 
 // The row of a step with 65,536 bytes lent.
-fn after(name: &[u8], o: Opener, f: &[u8]) {
+fn after(rt: &impl Print, name: &[u8], o: Opener, f: &[u8]) -> io::Result<()> {
     let mut out = filled();
     let s = opener::step(o, f, &mut out);
     let a = s.answer;
     let digest = state_digest(s.next, &out);
-    vectors::row(b"after", name, a.count(), a.number(), &digest);
+    vectors::row(rt, b"after", name, a.count(), a.number(), &digest)
 }
 
 // A state's phase as a number.

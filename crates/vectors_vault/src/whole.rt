@@ -2,6 +2,7 @@
 ghost use Rattle.std.specs.Prelude.{◌≡◌, length};
 
 use refusals::Written;
+use std::io;
 
 // Room for any payload of a line.
 pub fn filled() -> [u8; 65_536]
@@ -11,22 +12,30 @@ pub fn filled() -> [u8; 65_536]
 }
 
 // Opened with ample room, with just as much as is needed, and with one byte less.
-pub fn rows(name: &[u8], f: &[u8], t: [u8; 32]) {
-    let n = opened(b"whole", name, f, t, 65_536);
-    opened(b"just", name, f, t, n);
-    opened(b"less", name, f, t, less(n, 1));
+pub fn rows(rt: &impl Print, name: &[u8], f: &[u8], t: [u8; 32]) -> io::Result<()> {
+    let n = opened(rt, b"whole", name, f, t, 65_536)?;
+    opened(rt, b"just", name, f, t, n)?;
+    opened(rt, b"less", name, f, t, less(n, 1))?;
+    Ok(())
 }
 
 // The rows of an opening with so much room; its count.
-fn opened(kind: &[u8], name: &[u8], f: &[u8], t: [u8; 32], room: usize) -> usize {
+fn opened(
+    rt: &impl Print,
+    kind: &[u8],
+    name: &[u8],
+    f: &[u8],
+    t: [u8; 32],
+    room: usize,
+) -> io::Result<usize> {
     let mut out = filled();
     let w = open_in(f, t, &mut out, room);
     let n = w.count();
     let handed = sha256::hash(vectors::first(&out, n)).digest;
-    vectors::row(kind, name, figure(w), w.number(), &handed);
+    vectors::row(rt, kind, name, figure(w), w.number(), &handed)?;
     let all = sha256::hash(&out).digest;
-    vectors::row(b"output", name, room, 0, &all);
-    n
+    vectors::row(rt, b"output", name, room, 0, &all)?;
+    Ok(n)
 }
 
 // Opens a vault into the front of `out`.

@@ -10,18 +10,19 @@
 // limit, 16,777,216 bytes, and one over it do not fit the usual stack, nor does a file: tests/differential runs these
 // over the static library. tools/vectors_writer.py writes stdin and stdout, by a writer of its own.
 #![tactic(auto)]
+
 ghost use Rattle.std.specs.Prelude.{◌≡◌, length};
 
-use libc::STDIN_FILENO;
+use std::io;
 
 mod writing;
 
-fn main() {
+fn main(rt: HostRuntime) -> io::Result<()> {
     let mut space = table();
-    let n = io::read_full(STDIN_FILENO, &mut space);
+    let n = console::read_input(&rt, &mut space);
     let mut pattern = longest(0);
     vectors::pattern(&mut pattern);
-    lines(&space[..n], &pattern);
+    lines(&rt, &space[..n], &pattern)
 }
 
 // Room for all lines.
@@ -39,11 +40,12 @@ fn longest(b: u8) -> [u8; 4_194_305]
 }
 
 // The rows of each line of a table.
-fn lines(s: &[u8], pattern: &[u8]) {
+fn lines(rt: &impl Print, s: &[u8], pattern: &[u8]) -> io::Result<()> {
     let mut at: usize = 0;
     while at < s.len() {
         let end = vectors::table::find(s, at, b'\n');
-        writing::line(&s[at..end], pattern);
+        writing::line(rt, &s[at..end], pattern)?;
         at = end + 1;
     }
+    Ok(())
 }

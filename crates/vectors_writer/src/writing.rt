@@ -3,36 +3,43 @@ ghost use Rattle.std.specs.Prelude.{◌≡◌, ◌≤◌, length};
 
 use kdf_dictionary::writer::Figures;
 use refusals::Written;
+use std::io;
 use vectors::table::{bytes, field, number};
 
 // The rows of a line, whose payload is given or by rule.
-pub fn line(line: &[u8], pattern: &[u8]) {
+pub fn line(rt: &impl Print, line: &[u8], pattern: &[u8]) -> io::Result<()> {
     let text = field(line, 12);
     if vectors::table::is_given(text) {
-        let mut space = io::large_buffer();
+        let mut space = console::large_buffer();
         let n = bytes(text, &mut space);
-        with_payload(line, vectors::first(&space, n));
-        return;
+        return with_payload(rt, line, vectors::first(&space, n));
     }
-    with_payload(line, vectors::first(pattern, number(text) as usize));
+    with_payload(rt, line, vectors::first(pattern, number(text) as usize))
 }
 
 // The rows of a line and its payload.
-fn with_payload(line: &[u8], payload: &[u8]) {
+fn with_payload(rt: &impl Print, line: &[u8], payload: &[u8]) -> io::Result<()> {
     let mut seed = [0u8; 64];
     let mut salt = [0u8; 128];
     let s = bytes(field(line, 3), &mut seed);
     let k = bytes(field(line, 6), &mut salt);
     with_seeds(
+        rt,
         line,
         payload,
         vectors::first(&seed, s),
         vectors::first(&salt, k),
-    );
+    )
 }
 
 // The rows of a line, its payload, seed and salt.
-fn with_seeds(line: &[u8], payload: &[u8], seed: &[u8], salt: &[u8]) {
+fn with_seeds(
+    rt: &impl Print,
+    line: &[u8],
+    payload: &[u8],
+    seed: &[u8],
+    salt: &[u8],
+) -> io::Result<()> {
     let mut cipher = [0u8; 64];
     let mut nonce = [0u8; 64];
     let mut custom = [0u8; 256];
@@ -40,6 +47,7 @@ fn with_seeds(line: &[u8], payload: &[u8], seed: &[u8], salt: &[u8]) {
     let n = bytes(field(line, 4), &mut nonce);
     let d = bytes(field(line, 10), &mut custom);
     write(
+        rt,
         line,
         payload,
         seed,
@@ -47,11 +55,12 @@ fn with_seeds(line: &[u8], payload: &[u8], seed: &[u8], salt: &[u8]) {
         vectors::first(&cipher, c),
         vectors::first(&nonce, n),
         vectors::first(&custom, d),
-    );
+    )
 }
 
 // The rows of a line and all its bytes.
 fn write(
+    rt: &impl Print,
     line: &[u8],
     payload: &[u8],
     seed: &[u8],
@@ -59,17 +68,19 @@ fn write(
     cipher: &[u8],
     nonce: &[u8],
     custom: &[u8],
-) {
+) -> io::Result<()> {
     if number(field(line, 13)) as usize <= 65_536 {
         let mut out = output(0xEE);
-        write_to(line, payload, seed, salt, cipher, nonce, custom, &mut out);
-        return;
+        return write_to(
+            rt, line, payload, seed, salt, cipher, nonce, custom, &mut out,
+        );
     }
-    write_large(line, payload, seed, salt, cipher, nonce, custom, 0xEE);
+    write_large(rt, line, payload, seed, salt, cipher, nonce, custom, 0xEE)
 }
 
 // The same with a large output.
 fn write_large(
+    rt: &impl Print,
     line: &[u8],
     payload: &[u8],
     seed: &[u8],
@@ -78,13 +89,16 @@ fn write_large(
     nonce: &[u8],
     custom: &[u8],
     b: u8,
-) {
+) -> io::Result<()> {
     let mut out = [b; 2_162_688];
-    write_to(line, payload, seed, salt, cipher, nonce, custom, &mut out);
+    write_to(
+        rt, line, payload, seed, salt, cipher, nonce, custom, &mut out,
+    )
 }
 
 // The rows of a line, all its bytes and an output, of which the line's room is lent.
 fn write_to(
+    rt: &impl Print,
     line: &[u8],
     payload: &[u8],
     seed: &[u8],
@@ -93,7 +107,7 @@ fn write_to(
     nonce: &[u8],
     custom: &[u8],
     out: &mut [u8],
-) {
+) -> io::Result<()> {
     let minor = (number(field(line, 1)) % 0x1_0000) as u16;
     let figures = figures_of(line);
     let t = vectors::table::array(field(line, 11));
@@ -110,7 +124,7 @@ fn write_to(
         payload,
         &mut out[..room],
     );
-    show(field(line, 0), w, out);
+    show(rt, field(line, 0), w, out)
 }
 
 // The figures of a line's KDF.
@@ -151,26 +165,27 @@ fn room_of(n: usize, most: usize) -> usize
 }
 
 // The rows of an answer and the whole output.
-fn show(name: &[u8], w: Written, out: &[u8]) {
+fn show(rt: &impl Print, name: &[u8], w: Written, out: &[u8]) -> io::Result<()> {
     match w {
         Written::Refused(r) => {
-            vectors::row(b"written", name, 0, r.number(), b"");
-            hashed(b"behind", name, out);
+            vectors::row(rt, b"written", name, 0, r.number(), b"")?;
+            hashed(rt, b"behind", name, out)
         }
         Written::Wrote(n) => {
             let file = vectors::first(out, n);
-            hashed(b"written", name, file);
-            hashed(b"behind", name, vectors::after(out, n));
+            hashed(rt, b"written", name, file)?;
+            hashed(rt, b"behind", name, vectors::after(out, n))?;
             if slices::same(vectors::first(name, 5), b"file-") {
-                vectors::row(b"file", name, n, 0, file);
+                vectors::row(rt, b"file", name, n, 0, file)?;
             }
+            Ok(())
         }
     }
 }
 
 // The length and hash of bytes.
-fn hashed(name: &[u8], form: &[u8], s: &[u8]) {
+fn hashed(rt: &impl Print, name: &[u8], form: &[u8], s: &[u8]) -> io::Result<()> {
     let d = sha256::hash(s);
     let digest = d.digest;
-    vectors::row(name, form, s.len(), 0, &digest);
+    vectors::row(rt, name, form, s.len(), 0, &digest)
 }
