@@ -5,4 +5,4 @@ use lib.ListN.{length-replicate}
 use Rattle.vectors_inner.proofs.long.Goals as goal
 
 pub slice_bounds-long_rows-end : goal.slice_bounds-long_rows-end
-slice_bounds-long_rows-end c = sym (length-replicate 4194305 c.args.b)
+slice_bounds-long_rows-end g c = sym (length-replicate 4194305 c.args.b)

@@ -6,6 +6,6 @@ use lib.Seq.{length-take-le}
 use Rattle.vectors_salsa20.proofs.stretch.Goals as goal
 
 pub slice_bounds-apply-end : goal.slice_bounds-apply-end
-slice_bounds-apply-end c =
+slice_bounds-apply-end g c =
     let l = c.least-n in
     sym (length-take-le l.result (replicate 1024 0) (omega (arith, l.ensures)))

@@ -5,7 +5,7 @@ use lib.ListN.{length}
 use Rattle.vectors_aes.proofs.runs.lengths.Given as goal
 
 abbrev pub invariant-loop-n : goal.invariant-loop-n
-invariant-loop-n l = (length l.space ≡ length l.initial.space) × (l.n ≤ length l.initial.space + 1)
+invariant-loop-n g l = (length l.space ≡ length l.initial.space) × (l.n ≤ length l.initial.space + 1)
 
 abbrev pub decreases-loop-n : goal.decreases-loop-n
-decreases-loop-n l = length l.initial.space + 1 - l.n
+decreases-loop-n g l = length l.initial.space + 1 - l.n

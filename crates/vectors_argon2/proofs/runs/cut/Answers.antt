@@ -5,4 +5,4 @@ use lib.Seq.{length-take-le}
 use Rattle.vectors_argon2.proofs.runs.cut.Goals as goal
 
 pub slice_bounds-tag-end-then-n-out : goal.slice_bounds-tag-end-then-n-out
-slice_bounds-tag-end-then-n-out c = sym (length-take-le _ _ (omega arith))
+slice_bounds-tag-end-then-n-out g c = sym (length-take-le _ _ (omega arith))

@@ -5,4 +5,4 @@ use lib.Seq.{length-take-le}
 use Rattle.vectors_argon2.proofs.runs.rows.Goals as goal
 
 pub slice_bounds-run-end-then-n-memory : goal.slice_bounds-run-end-then-n-memory
-slice_bounds-run-end-then-n-memory c = sym (length-take-le _ _ (omega arith))
+slice_bounds-run-end-then-n-memory g c = sym (length-take-le _ _ (omega arith))

@@ -7,5 +7,5 @@ use lib.Seq.{length-take-le}
 use Rattle.vectors_blake2b.proofs.on_long.long.Goals as goal
 
 pub slice_bounds-fill-end : goal.slice_bounds-fill-end
-slice_bounds-fill-end c =
+slice_bounds-fill-end g c =
     sym (length-take-le c.args.t (replicate 1024 0xa5) (omega (arith, c.requires, length-replicate {A = ℕ} 1024 0xa5)))

@@ -5,6 +5,6 @@ use lib.Seq.{length-take-le}
 use Rattle.vectors_chacha20.proofs.runs.lengths.Goals as goal
 
 pub slice_bounds-forms-end-in-loop-n : goal.slice_bounds-forms-end-in-loop-n
-slice_bounds-forms-end-in-loop-n c =
+slice_bounds-forms-end-in-loop-n g c =
     let l = c.loop-n in
     sym (length-take-le l.n l.space (omega arith))

@@ -6,6 +6,6 @@ use lib.Seq.{length-take-le}
 use Rattle.vectors_inner_stream.proofs.carried.stretch.Goals as goal
 
 pub slice_bounds-apply-end : goal.slice_bounds-apply-end
-slice_bounds-apply-end c =
+slice_bounds-apply-end g c =
     let l = c.least-lent in
     sym (length-take-le l.result (replicate 200 0xaa) (omega (arith, l.ensures)))

@@ -3,7 +3,7 @@ use Prim.Native.Nat.{◌-◌, ◌≤◌}
 use Rattle.vectors_inner_stream.proofs.runs.lengths.Given as goal
 
 abbrev pub invariant-loop-n : goal.invariant-loop-n
-invariant-loop-n l = n ≤ 151
+invariant-loop-n g l = l.n ≤ 151
 
 abbrev pub decreases-loop-n : goal.decreases-loop-n
-decreases-loop-n l = 151 - n
+decreases-loop-n g l = 151 - l.n

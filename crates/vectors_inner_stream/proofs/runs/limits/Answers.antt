@@ -5,4 +5,4 @@ use lib.ListN.{length-replicate}
 use Rattle.vectors_inner_stream.proofs.runs.limits.Goals as goal
 
 pub slice_bounds-limits_of-end : goal.slice_bounds-limits_of-end
-slice_bounds-limits_of-end c = sym (length-replicate 4194305 c.args.b)
+slice_bounds-limits_of-end g c = sym (length-replicate 4194305 c.args.b)

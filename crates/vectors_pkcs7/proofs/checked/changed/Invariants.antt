@@ -2,8 +2,5 @@
 use Prim.Native.Nat.{◌-◌}
 use Rattle.vectors_pkcs7.proofs.checked.changed.Given as goal
 
-abbrev pub invariant-loop-i : goal.invariant-loop-i
-invariant-loop-i l = Unit
-
 abbrev pub decreases-loop-i : goal.decreases-loop-i
-decreases-loop-i l = 16 - i
+decreases-loop-i g l = 16 - l.i

@@ -3,7 +3,7 @@ use Prim.Native.Nat.{◌≤◌, ◌-◌}
 use Rattle.vectors_pkcs7.proofs.checked.paddings.Given as goal
 
 abbrev pub invariant-loop-n : goal.invariant-loop-n
-invariant-loop-n l = n ≤ 16
+invariant-loop-n g l = l.n ≤ 16
 
 abbrev pub decreases-loop-n : goal.decreases-loop-n
-decreases-loop-n l = 16 - n
+decreases-loop-n g l = 16 - l.n

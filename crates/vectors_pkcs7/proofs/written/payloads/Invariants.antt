@@ -5,7 +5,7 @@ use lib.ListN.{length}
 use Rattle.vectors_pkcs7.proofs.written.payloads.Given as goal
 
 abbrev pub invariant-loop-n : goal.invariant-loop-n
-invariant-loop-n l = (length l.n ≡ length l.initial.space) × (n ≤ 49)
+invariant-loop-n g l = (length l.space ≡ length l.initial.space) × (l.n ≤ 49)
 
 abbrev pub decreases-loop-n : goal.decreases-loop-n
-decreases-loop-n l = 49 - n
+decreases-loop-n g l = 49 - l.n

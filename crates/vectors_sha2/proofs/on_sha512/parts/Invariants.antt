@@ -4,7 +4,7 @@ use lib.ListN.{length}
 use Rattle.vectors_sha2.proofs.on_sha512.parts.Given as goal
 
 abbrev pub invariant-loop-at : goal.invariant-loop-at
-invariant-loop-at l = (0 < l.at) × (at ≤ length l.m)
+invariant-loop-at g l = (0 < l.size) × (l.at ≤ length l.m)
 
 abbrev pub decreases-loop-at : goal.decreases-loop-at
-decreases-loop-at l = length l.m - at
+decreases-loop-at g l = length l.m - l.at

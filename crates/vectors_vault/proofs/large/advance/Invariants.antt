@@ -4,7 +4,7 @@ use lib.ListN.{length}
 use Rattle.vectors_vault.proofs.large.advance.Given as goal
 
 abbrev pub invariant-loop-left : goal.invariant-loop-left
-invariant-loop-left l = length l.o ≡ length l.initial.out
+invariant-loop-left g l = length l.out ≡ length l.initial.out
 
 abbrev pub decreases-loop-left : goal.decreases-loop-left
-decreases-loop-left l = left
+decreases-loop-left g l = l.left

@@ -5,4 +5,4 @@ use lib.ListN.{length-replicate}
 use Rattle.vectors_vault.proofs.large.opened.Goals as goal
 
 pub slice_bounds-opened_in-end : goal.slice_bounds-opened_in-end
-slice_bounds-opened_in-end c = sym (length-replicate 1050000 c.args.b)
+slice_bounds-opened_in-end g c = sym (length-replicate 1050000 c.args.b)

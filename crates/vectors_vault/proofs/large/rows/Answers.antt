@@ -5,4 +5,4 @@ use lib.ListN.{length-replicate}
 use Rattle.vectors_vault.proofs.large.rows.Goals as goal
 
 pub slice_bounds-rows_in-end : goal.slice_bounds-rows_in-end
-slice_bounds-rows_in-end c = sym (length-replicate 4194305 c.args.b)
+slice_bounds-rows_in-end g c = sym (length-replicate 4194305 c.args.b)

@@ -5,5 +5,5 @@ use lib.ListN.{length-replicate}
 use Rattle.vectors_writer.proofs.writing.write_large.Goals as goal
 
 pub slice_bounds-write_to-end : goal.slice_bounds-write_to-end
-slice_bounds-write_to-end c =
+slice_bounds-write_to-end g c =
     sym (length-replicate 2162688 c.args.b)

@@ -5,7 +5,7 @@ use lib.Seq.{length-take-le}
 use Rattle.vectors_writer.proofs.writing.write_to.Goals as goal
 
 pub slice_bounds-write-end-2 : goal.slice_bounds-write-end-2
-slice_bounds-write-end-2 c =
+slice_bounds-write-end-2 g c =
     let r = c.room_of-room in
     let h = r.ensures in
     sym (length-take-le r.result c.args.out.now (omega arith))
