@@ -99,6 +99,7 @@ RefusedAlike k f p a =
 some_refused : (k : Keys) (f : List ℕ) (p : ℕ) (r : Refusal) → Closing r → {l : List Answer}
     → Each (RefusedAlike k f p) l
     → Some (λ (a : Answer). a.written ≡ written.Refused r) l → (n : ℕ) → whole_in k f p n ≡ refused r
+some_refused k f p r c none i = elim i [ ]
 some_refused k f p r c (both g h) (here e) = g r e c
 some_refused k f p r c (both g h) (there y) = some_refused k f p r c h y
 
