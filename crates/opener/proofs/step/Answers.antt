@@ -16,14 +16,25 @@ use Rattle.opener.proofs.step.Goals as goal
 
 -- a reply's three parts
 parts : (q : Reply Opener) (r : Stepped) (d x : List ℕ) → Does q r d x
-    → (r.answer ≡ q.answer.written) × ((r.next ≡ q.next) × (x ≡ over q.answer.bytes d))
-parts q r d x h = (ap (λ (s : Stepped). s.answer) h.gives, (ap (λ (s : Stepped). s.next) h.gives, h.leaves))
+    → record {
+      answer_value : r.answer ≡ q.answer.written;
+      next_value : r.next ≡ q.next;
+      out_after : x ≡ over q.answer.bytes d;
+    }
+parts q r d x h = record {
+  answer_value = ap (λ (s : Stepped). s.answer) h.gives;
+  next_value = ap (λ (s : Stepped). s.next) h.gives;
+  out_after = h.leaves;
+}
 
 -- a refusal with 19
 out_of_sequence : (f d : List ℕ) (o : Opener) (r : Stepped) → step_of f o (length d) ≡ refuse OutOfSequence o
     → r ≡ record { answer = (refuse OutOfSequence o).answer.written; next = (refuse OutOfSequence o).next }
-    → (r.answer ≡ (step_of f o (length d)).answer.written)
-    × ((r.next ≡ (step_of f o (length d)).next) × (d ≡ over (step_of f o (length d)).answer.bytes d))
+    → record {
+      answer_value : r.answer ≡ (step_of f o (length d)).answer.written;
+      next_value : r.next ≡ (step_of f o (length d)).next;
+      out_after : d ≡ over (step_of f o (length d)).answer.bytes d;
+    }
 out_of_sequence f d o r e g =
     parts (step_of f o (length d)) r d d
     (does_by (step_of f o (length d)) (refuse OutOfSequence o) r d d e (refuse_does OutOfSequence o r d g))

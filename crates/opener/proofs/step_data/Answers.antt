@@ -59,5 +59,5 @@ returns c =
     let p = part_is a.f.now o.at a.n in
     data_does a.f.now o a.n c.requires.n_in_bounds long_prev long_held d _ k _ c.due-need.ensures
     c.if-out-need.false
-    (ap (λ (x : Opener). record { answer = Wrote k; next = x }) (t.0 ∙ ap (taking o) p))
-    (t.1 ∙ ap (λ (b : List ℕ). over (bytes_by o.keys.cipher o.keys o.taken o.prev o.held b) d) p)
+    (ap (λ (x : Opener). record { answer = Wrote k; next = x }) (t.value ∙ ap (taking o) p))
+    (t.out_after ∙ ap (λ (b : List ℕ). over (bytes_by o.keys.cipher o.keys o.taken o.prev o.held b) d) p)

@@ -30,10 +30,10 @@ returns c =
     let n = length a.d.now in
     let o = a.o in
     record {
-      value = ap₂ (λ (v x : List ℕ). opener o.keys Open (o.number + 1) (o.at + 36 + n) (o.taken + n) v x) t.0
-          t.1.0
+      value = ap₂ (λ (v x : List ℕ). opener o.keys Open (o.number + 1) (o.at + 36 + n) (o.taken + n) v x) t.prev_value
+          t.held_value
           ∙ ap (λ (i : ℕ). opener o.keys Open i (o.at + 36 + n) (o.taken + n)
           (prev_by o.keys.cipher o.taken o.prev o.held a.d.now)
           (held_by o.keys.cipher o.taken o.held a.d.now)) (add-one o.number);
-      out_after = t.1.1;
+      out_after = t.out_after;
     }

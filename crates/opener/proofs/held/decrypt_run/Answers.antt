@@ -13,6 +13,6 @@ returns c =
     let run = c.fill.ensures in
     let d = c.decrypt_cbc.ensures in
     record {
-      value = d.0 ∙ ap (previous a.prev) run;
-      out_after = d.1 ∙ ap (λ (s : List ℕ). over (decrypt a.keys.words a.prev s) s) run;
+      value = d.value ∙ ap (previous a.prev) run;
+      out_after = d.out_after ∙ ap (λ (s : List ℕ). over (decrypt a.keys.words a.prev s) s) run;
     }

@@ -9,21 +9,21 @@ use Rattle.opener.proofs.held.fill.Goals as goal
 
 pub slice_bounds-copy-end : goal.slice_bounds-copy-end
 slice_bounds-copy-end c =
-    let long : length c.args.t1 ≡ 16 = search rules in
-    let l : length c.args.t1 ≡ 16 = long in
-    sym (length-take-le c.args.h c.args.t1 (omega arith))
+    let long : length c.args.held ≡ 16 = search rules in
+    let l : length c.args.held ≡ 16 = long in
+    sym (length-take-le c.args.h c.args.held (omega arith))
 
 pub returns-then-h-out : goal.returns-then-h-out
 returns-then-h-out c =
-    let long : length c.args.t1 ≡ 16 = search rules in
+    let long : length c.args.held ≡ 16 = search rules in
     let a = c.args in
-    let l : length a.t1 ≡ 16 = long in
-    fill_both a.t1 a.d.now a.out.now c.copy.new.0 _ a.h _ (omega arith) (search rules)
+    let l : length a.held ≡ 16 = long in
+    fill_both a.held a.d.now a.out.now c.copy.new.out _ a.h _ (omega arith) (search rules)
     (search rules) c.copy.ensures refl c.copy-then-h-out.ensures
 
 pub returns-else-h-out : goal.returns-else-h-out
 returns-else-h-out c =
-    let long : length c.args.t1 ≡ 16 = search rules in
+    let long : length c.args.held ≡ 16 = search rules in
     let a = c.args in
-    let l : length a.t1 ≡ 16 = long in
-    c.copy.ensures ∙ fill-held a.t1 a.d.now a.out.now a.h (omega arith) (search rules)
+    let l : length a.held ≡ 16 = long in
+    c.copy.ensures ∙ fill-held a.held a.d.now a.out.now a.h (omega arith) (search rules)

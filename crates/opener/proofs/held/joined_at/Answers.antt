@@ -6,9 +6,9 @@ use Rattle.opener.proofs.held.joined_at.Goals as goal
 pub returns-then-j-h : goal.returns-then-j-h
 returns-then-j-h c =
     let a = c.args in
-    joined-held a.t1 a.d.now a.h a.j (search rules) (search rules)
+    joined-held a.held a.d.now a.h a.j (search rules) (search rules)
 
 pub returns : goal.returns
 returns c =
     let a = c.args in
-    joined_data a.t1 a.d.now a.h a.j (search rules) (search rules)
+    joined_data a.held a.d.now a.h a.j (search rules) (search rules)

@@ -6,36 +6,36 @@ use native.Mathlib.Omega.{arith}
 use lib.ListN.{length, take}
 use lib.Seq.{length-take-le}
 use Rattle.cbc.specs.Sp80038a.{previous}
+use Rattle.ciphers.specs.declared.Cipher.TheVariants.{Aes256}
 use Rattle.opener.specs.Counts.{held_count, due_count, due_by}
 use Rattle.opener.proofs.Laws.Due.{due_count-le, due_count_rest, prev_is, held_is, aes_over}
 use borrow.Author.Rules.{rules}
 use Rattle.opener.proofs.held.take_aes.Goals as goal
 
 -- n is the due count, and there is room for it
-room : (c : tie.Start) (h n : ℕ) → h ≡ held_count c.args.c → n ≡ due_count (h + length c.args.d.now)
-    → n ≤ length c.args.out.now
+room : (c m l h n : ℕ) → due_by Aes256 c m ≤ l → h ≡ held_count c → n ≡ due_count (h + m) → n ≤ l
 unfolding due_by
-room c h n eh en = rw (en, eh) c.requires
+room c m l h n r eh en = rw (en, eh) r
 
 pub slice_bounds-decrypt_run-end : goal.slice_bounds-decrypt_run-end
 slice_bounds-decrypt_run-end c =
     let n = c.due_count-n in
     let h = c.held_count-h in
-    room c h.result n.result h.ensures.0 n.ensures
+    room _ _ _ h.result n.result c.requires h.ensures.0 n.ensures
 
 pub slice_bounds-decrypt_run-end-2 : goal.slice_bounds-decrypt_run-end-2
 slice_bounds-decrypt_run-end-2 c =
     let n = c.due_count-n in
     let h = c.held_count-h in
     sym (length-take-le n.result c.args.out.now
-    (room c h.result n.result h.ensures.0 n.ensures))
+    (room _ _ _ h.result n.result c.requires h.ensures.0 n.ensures))
 
 pub decrypt_run-v-requires : goal.decrypt_run-v-requires
 decrypt_run-v-requires c =
     let n = c.due_count-n in
     let h = c.held_count-h in
     let l = length-take-le n.result c.args.out.now
-    (room c h.result n.result h.ensures.0 n.ensures) in
+    (room _ _ _ h.result n.result c.requires h.ensures.0 n.ensures) in
     let m = due_count-le (h.result + length c.args.d.now) in
     let e = n.ensures in
     record {
@@ -71,12 +71,12 @@ returns c =
     let lx = long_held in
     let lv = long_prev in
     let lm : length (take n.result out) ≡ n.result =
-    length-take-le n.result out (room c h.result n.result eh en) in
+    length-take-le n.result out (room _ _ _ h.result n.result c.requires eh en) in
     let run = c.decrypt_run-v.ensures in
     record {
-      prev_value = run.0
+      prev_value = run.value
           ∙ ap (λ (j : ℕ). previous a.prev (take j (take h.result x ++ d))) lm
           ∙ sym (prev_is a.c h.result n.result x d eh lx en a.prev);
       held_value = c.keep-k.ensures ∙ sym (held_is a.c h.result n.result x d eh lx en);
-      out_after = aes_over a.c h.result n.result x d eh lx en a.keys a.prev out _ _ lv lm run.1;
+      out_after = aes_over a.c h.result n.result x d eh lx en a.keys a.prev out _ _ lv lm run.out_after;
     }
