@@ -16,10 +16,10 @@ returns c =
     let a = c.args in
     let d = a.out.now in
     let t = text a.f.now a.p in
-    let x = c.copy_text.new.1.1.1.0 in
+    let x = c.copy_text.new.out in
     let e : x ≡ take (length d) t = over_full t d x (length d) refl c.requires.0 c.copy_text.ensures in
     let n : length x ≡ length d = ap length e ∙ length-take-le (length d) t c.requires.0 in
     let h : length x % 16 ≡ 0 = ap (λ i. i % 16) n ∙ c.requires.1 in
-    aes_from_over a.k a.k.nonce x c.decrypt_cbc.new.1.1.0 nonce_size h
+    aes_from_over a.k a.k.nonce x c.decrypt_cbc.new.out nonce_size h
     c.decrypt_cbc.ensures.out_after
     ∙ ap (aes_from a.k a.k.nonce) e

@@ -14,7 +14,7 @@ returns c =
     let a = c.args in
     let d = a.out.now in
     let t = text a.f.now a.p in
-    let x = c.copy_text.new.1.1.1.0 in
+    let x = c.copy_text.new.out in
     let e : x ≡ take (length d) t = over_full t d x (length d) refl c.requires c.copy_text.ensures in
     c.apply.ensures
     ∙ ap₂ (λ (n s : List ℕ). stream.apply (rfc8439.blocks a.k.key n) 0 s) c.short_nonce.ensures e

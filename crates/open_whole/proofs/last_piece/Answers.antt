@@ -16,7 +16,7 @@ returns c =
     let a = c.args in
     let t = text a.f.now a.p in
     let s = drop (a.c - 16) t in
-    let x = c.copy_text.new.1.1.1.0 in
+    let x = c.copy_text.new.out in
     let v = c.piece_before-before.result in
     let n : length s ≡ 16 = simp length-drop (omega (arith, c.requires.c_value)) in
     let e : x ≡ s =
@@ -24,5 +24,5 @@ returns c =
     let l : length v ≡ 16 = search rules in
     let m : length x ≡ 16 = ap length e ∙ n in
     let h : length x % 16 ≡ 0 = omega arith in
-    aes_from_over a.k v x c.decrypt_cbc.new.1.1.0 l h c.decrypt_cbc.ensures.out_after
+    aes_from_over a.k v x c.decrypt_cbc.new.out l h c.decrypt_cbc.ensures.out_after
     ∙ ap₂ (aes_from a.k) c.piece_before-before.ensures e

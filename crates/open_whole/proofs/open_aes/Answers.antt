@@ -91,7 +91,7 @@ returns-in-Of c =
     let r = padding_is in
     let b = front a.k t a.c n c.requires h l ++ take (16 - q) x in
     answered-opened (payload_by Aes256 a.k t) b a.out.now
-    c.write_aes.new.1.1.1.1.1.1.0 (a.c - 16 + (16 - q))
+    c.write_aes.new.out (a.c - 16 + (16 - q))
     (payload_right a.k t a.c n c.requires h l x q e r.0 r.1)
     (length_right a.k t a.c n c.requires h l x q e r.0) c.if-out-c.false
     c.write_aes.ensures

@@ -35,7 +35,7 @@ returns-in-Aes256 c =
     let a = c.args in
     let t = text a.f.now a.p in
     answered_whole a.k a.f.now a.p (payload_by Aes256 a.k t) c.open_aes.result a.out.now
-    c.open_aes.new.1.1.1.1.0
+    c.open_aes.new.out
     (whole_text a.k a.f.now a.p c.in-Text.c
     (sym c.survey.ensures ∙ c.in-Text.is)
     ∙ ap (λ (z : Cipher). payload_by z a.k t) c.in-Aes256.is)
@@ -46,7 +46,7 @@ returns-in-ChaCha20 c =
     let a = c.args in
     let t = text a.f.now a.p in
     answered_whole a.k a.f.now a.p (payload_by ChaCha20 a.k t) c.open_chacha20.result a.out.now
-    c.open_chacha20.new.1.1.1.1.0
+    c.open_chacha20.new.out
     (whole_text a.k a.f.now a.p c.in-Text.c
     (sym c.survey.ensures ∙ c.in-Text.is)
     ∙ ap (λ (z : Cipher). payload_by z a.k t) c.in-ChaCha20.is)

@@ -22,5 +22,5 @@ returns c =
     let l : length a.k.nonce ≡ 16 = search rules in
     let e : 16 ≤ length d = simp length-drop (omega (arith, c.requires.c_value)) in
     let m : 32 ≤ a.c = omega arith in
-    over_full d a.k.nonce c.copy_text.new.1.1.1.0 16 l e c.copy_text.ensures
+    over_full d a.k.nonce c.copy_text.new.out 16 l e c.copy_text.ensures
     ∙ sym (previous_two a.k.nonce t a.c c.requires.c_value c.requires.c_value_2.0 m)

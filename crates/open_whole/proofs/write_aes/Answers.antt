@@ -24,15 +24,15 @@ fill_aes-requires c =
 
 pub slice_bounds-copy-end-2 : goal.slice_bounds-copy-end-2
 slice_bounds-copy-end-2 c =
-    let last_size : length c.args.t5 ≡ 16 = search rules in
+    let last_size : length c.args.last ≡ 16 = search rules in
     let a = c.args in
     let l = last_size in
-    sym (length-take-le a.m a.t5 (omega arith))
+    sym (length-take-le a.m a.last (omega arith))
 
 pub returns : goal.returns
 returns c =
     let nonce_size : length c.args.k.nonce ≡ 16 = search rules in
-    let last_size : length c.args.t5 ≡ 16 = search rules in
+    let last_size : length c.args.last ≡ 16 = search rules in
     let a = c.args in
     let d = a.out.now in
     let s = take a.n (text a.f.now a.p) in
@@ -41,9 +41,9 @@ returns c =
     let ls : length s ≡ a.n = length-take-le a.n (text a.f.now a.p) c.requires.n_in_bounds.0 in
     let lw : length w ≡ a.n =
     length-aes_from a.k a.k.nonce s nonce_size (ap (λ i. i % 16) ls ∙ c.requires.n_in_bounds.1) ∙ ls in
-    let lm : length (take a.m a.t5) ≡ a.m = length-take-le a.m a.t5 (omega arith) in
-    let ys = c.fill_aes.new.1.1.1.0 in
+    let lm : length (take a.m a.last) ≡ a.m = length-take-le a.m a.last (omega arith) in
+    let ys = c.fill_aes.new.out in
     let e : ys ≡ w =
     aes_from-part a.k a.k.nonce (text a.f.now a.p) d ys a.n (omega arith) c.fill_aes.ensures in
-    over_two w (take a.m a.t5) d (ys ++ drop a.n d) c.copy.new.0 a.n
+    over_two w (take a.m a.last) d (ys ++ drop a.n d) c.copy.new.out a.n
     (length (ys ++ drop a.n d) - a.n) (over_front w d ys a.n e lw) lw (omega arith) refl c.copy.ensures

@@ -77,7 +77,7 @@ loop-done-preserved c =
     ∙ ap (min (length l.out - l.done))
     (sym (length_part f l.at n s block_there (least_r _ _ _ c.least-s.ensures))) in
     filling_more t (drop l.left (text f l.at)) a.out.now l.out l.done l.invariant
-    b (drop (l.left - s) (text f (l.at + 36 + n))) c.copy.new.0 (length l.out - l.done)
+    b (drop (l.left - s) (text f (l.at + 36 + n))) c.copy.new.out (length l.out - l.done)
     c.least-m.result
     (text_skip f l.at n l.left s c.block_size-n.ensures c.if-n-eq0.false
     c.least-s.ensures)
