@@ -6,6 +6,7 @@
 // little-endian. Nothing is refused here: bytes that no state packs to are a state all the same, and one whose mark is
 // not listed is refused by the functions that go on with it.
 #![tactic(auto)]
+
 pub mod aes_kdf_state;
 mod arrays;
 pub mod inner_stream_state;

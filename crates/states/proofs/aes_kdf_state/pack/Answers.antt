@@ -18,7 +18,7 @@ use Rattle.states.proofs.aes_kdf_state.pack.Goals as goal
 pub put_words32-requires : goal.put_words32-requires
 put_words32-requires c =
     let long_keys : length c.args.t.keys.words ≡ 60 = search rules in
-    let l : length c.put.new.0 ≡ 281 = ap length c.put.ensures ∙ length-put_at 0 _ (zeros 281) in
+    let l : length c.put.new.out ≡ 281 = ap length c.put.ensures ∙ length-put_at 0 _ (zeros 281) in
     omega (arith, long_keys)
 
 pub returns : goal.returns

@@ -4,4 +4,4 @@ use Rattle.states.proofs.arrays.bytes16_at.Goals as goal
 
 pub returns : goal.returns
 returns c =
-    copied_at c.args.s.now c.copy.new.0 c.args.at 16 c.requires c.copy.ensures
+    copied_at c.args.s.now c.copy.new.out c.args.at 16 c.requires c.copy.ensures

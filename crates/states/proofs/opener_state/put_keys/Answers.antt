@@ -14,7 +14,7 @@ use Rattle.states.proofs.opener_state.put_keys.Goals as goal
 pub put_words32-requires : goal.put_words32-requires
 put_words32-requires c =
     let long_round_keys : length c.args.k.round_keys.words ≡ 60 = search rules in
-    let l : length c.put.new.0 ≡ length c.args.out.now =
+    let l : length c.put.new.out ≡ length c.args.out.now =
     ap length c.put.ensures ∙ length-put_at 58 c.args.k.key c.args.out.now in
     omega (arith, long_round_keys)
 
