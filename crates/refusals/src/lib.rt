@@ -5,6 +5,7 @@
 // An operation answers an `Outcome`, or an enum of its own with a case for a `Refusal`; what number a refusal has is
 // said here alone. The contracts cite specs/Numbers and specs/Limits.
 #![tactic(auto)]
+
 ghost use Rattle.std.specs.Prelude.{◌≡◌};
 ghost use Rattle.refusals.specs.Numbers as numbers;
 

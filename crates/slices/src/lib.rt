@@ -4,6 +4,7 @@
 // part of a slice lies). Every function answers every input: a copy takes as many bytes as there is room for, and
 // slices of two lengths differ.
 #![tactic(auto)]
+
 ghost use Rattle.std.specs.Prelude.{◌≡◌, min, length, take, drop, replicate};
 ghost use Rattle.slices.specs.Over.{over, put_at};
 ghost use Rattle.slices.specs.Same.{same as same_lists};

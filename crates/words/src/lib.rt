@@ -3,6 +3,7 @@
 // The contracts cite specs/Word (sums) and specs/Endian (a number and its bytes). Every function answers every input:
 // where a reading runs past the end of a slice, the missing bytes count as zeros, as in the definitions.
 #![tactic(auto)]
+
 ghost use Rattle.std.specs.Prelude.{◌≡◌, slice_index};
 ghost use Rattle.words.specs.Word as word;
 

@@ -13,7 +13,7 @@
 --   le-le_bytes, le_bytes-le  from a number to its bytes and back, from bytes to their number and back
 -- Not here: exclusive or (XorBytes).
 -- Assumes nothing.
-use Rattle.std.proofs.Common.{◌≡◌, ℕ, zero, suc, ◌+◌, ◌-◌, ◌*◌, ◌/◌, ◌%◌, ◌^◌, ◌<◌, ◌≤◌, List, ◌∷◌, ◌++◌, length, get_or, take, drop, sym, refl, ap, ◌∙◌, add-zero, add_assoc, mul_assoc, mul_comm, pow-suc, zero-add, add-one, arith, get_or-drop, drop-cons, get_or-take}
+use Rattle.std.proofs.Common.{◌≡◌, ℕ, zero, suc, ◌+◌, ◌*◌, ◌/◌, ◌%◌, ◌^◌, ◌<◌, ◌≤◌, List, ◌∷◌, ◌++◌, length, get_or, take, drop, sym, refl, ap, ◌∙◌, add-zero, add_assoc, mul_assoc, mul_comm, pow-suc, zero-add, add-one, arith, get_or-drop, drop-cons, get_or-take}
 use native.Mathlib.Nat.{one-le-pow, mod-one}
 use lib.Arith.{digits_lt, digits_div, digits_mod, mod-mul}
 use lib.ListN.{get_or-eq_default, get_or-append}

@@ -3,7 +3,7 @@
 -- In order: xors_comm, xors_assoc, xors_undo (twice the same gives the list back), length-xors, get_or-xors, xors-append.
 -- Not here: exclusive or of numbers (Xor), of words and their bytes (XorBytes).
 -- Assumes nothing.
-use Rattle.std.proofs.Common.{◌≡◌, ℕ, zero, suc, ◌+◌, ◌<◌, ◌≤◌, List, [], ◌∷◌, ◌++◌, length, get_or, refl, ap, ap₂, arith}
+use Rattle.std.proofs.Common.{◌≡◌, ℕ, zero, suc, ◌<◌, ◌≤◌, List, [], ◌∷◌, ◌++◌, length, get_or, refl, ap, ap₂, arith}
 use lib.Bits.{bit_xor, xor_comm}
 use Rattle.words.specs.Xor.{xors}
 use Rattle.words.proofs.Laws.Xor.{xor_assoc, xor_undo}
