@@ -5,6 +5,7 @@
 // index depends on the words; of branches see docs/PROMISES.md, "Not claimed". An `ensures` that asks for 128 words asks
 // nothing of an array: the proofs know no length of what lies behind a reference, and the owner of the array does.
 #![tactic(auto)]
+
 ghost use Rattle.std.specs.Prelude.{◌≡◌, ◌+◌, ◌*◌, ◌%◌, ◌^◌, ◌<◌, ◌≤◌, length, bit_xor};
 ghost use Rattle.words.specs.Word as word;
 ghost use Rattle.argon2_block.specs.Rfc9106 as rfc9106;
