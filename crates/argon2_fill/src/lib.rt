@@ -6,6 +6,7 @@
 // filled). Words behind the blocks stay. Argon2d, and Argon2id behind its first half pass, look at places that depend on the
 // password.
 #![tactic(auto)]
+
 ghost use Rattle.std.specs.Prelude.{◌≡◌};
 ghost use Rattle.argon2_fill.specs.Rfc9106 as rfc9106;
 ghost use Rattle.argon2_fill.specs.State as state;

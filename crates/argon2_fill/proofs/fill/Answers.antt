@@ -9,16 +9,16 @@ pub fill_passes-requires : goal.fill_passes-requires
 fill_passes-requires c =
     let a = c.args in
     let f = figures a.f in
-    let t = sym c.fits2.ensures ∙ c.if-fits.true in
+    let t = sym c.fits.ensures ∙ c.if-fits.true in
     (accepts-fits f (length a.memory.now) t, accepts_room f (length a.memory.now) t)
 
 pub returns-then-fits : goal.returns-then-fits
 returns-then-fits c =
     let a = c.args in
     c.fill_passes.ensures
-    ∙ sym (filled_is (figures a.f) a.memory.now (sym c.fits2.ensures ∙ c.if-fits.true))
+    ∙ sym (filled_is (figures a.f) a.memory.now (sym c.fits.ensures ∙ c.if-fits.true))
 
 pub returns-else-fits : goal.returns-else-fits
 returns-else-fits c =
     let a = c.args in
-    sym (filled-not (figures a.f) a.memory.now (sym c.fits2.ensures ∙ c.if-fits.false))
+    sym (filled-not (figures a.f) a.memory.now (sym c.fits.ensures ∙ c.if-fits.false))

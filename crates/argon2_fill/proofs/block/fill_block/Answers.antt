@@ -23,10 +23,10 @@ put_fresh-requires c =
     let f = figures a.f in
     let p = position a.p in
     let m = a.memory.now in
-    let r = c.source.new.0 in
+    let r = c.source.new.r in
     let e = c.source.ensures in
     let n = length-source f p (chooser f m p) m r c.requires.0.placed c.requires.1.0 e in (
-      tail-length m _ _ c.start_of_lem.ensures.1 refl,
+      tail-length m _ _ c.start_of-at.ensures.1 refl,
       (ap length (c.permute.ensures n) ∙ length-permuted r ∙ n, n),
     )
 
@@ -36,12 +36,12 @@ returns-then-p-eq0 c =
     let f = figures a.f in
     let p = position a.p in
     let m = a.memory.now in
-    let r = c.source.new.0 in
+    let r = c.source.new.r in
     let e = c.source.ensures in
     let n = length-source f p (chooser f m p) m r c.requires.0.placed c.requires.1.0 e in
     fill_block_first (chooser f) f p m r _ _ _ _ c.if-p-eq0.true n e
-    (c.permute.ensures n) (c.start_of_lem.ensures.0 ∙ ap (λ (i : ℕ). i * 128) c.current.ensures)
-    c.start_of_lem.ensures.1 refl c.put_fresh.ensures
+    (c.permute.ensures n) (c.start_of-at.ensures.0 ∙ ap (λ (i : ℕ). i * 128) c.current.ensures)
+    c.start_of-at.ensures.1 refl c.put_fresh.ensures
 
 pub put_over-requires : goal.put_over-requires
 put_over-requires c =
@@ -49,10 +49,10 @@ put_over-requires c =
     let f = figures a.f in
     let p = position a.p in
     let m = a.memory.now in
-    let r = c.source.new.0 in
+    let r = c.source.new.r in
     let e = c.source.ensures in
     let n = length-source f p (chooser f m p) m r c.requires.0.placed c.requires.1.0 e in (
-      tail-length m _ _ c.start_of_lem.ensures.1 refl,
+      tail-length m _ _ c.start_of-at.ensures.1 refl,
       (ap length (c.permute.ensures n) ∙ length-permuted r ∙ n, n),
     )
 
@@ -62,9 +62,9 @@ returns c =
     let f = figures a.f in
     let p = position a.p in
     let m = a.memory.now in
-    let r = c.source.new.0 in
+    let r = c.source.new.r in
     let e = c.source.ensures in
     let n = length-source f p (chooser f m p) m r c.requires.0.placed c.requires.1.0 e in
     fill_block_later (chooser f) f p m r _ _ _ _ c.if-p-eq0.false n e
-    (c.permute.ensures n) (c.start_of_lem.ensures.0 ∙ ap (λ (i : ℕ). i * 128) c.current.ensures)
-    c.start_of_lem.ensures.1 refl c.put_over.ensures
+    (c.permute.ensures n) (c.start_of-at.ensures.0 ∙ ap (λ (i : ℕ). i * 128) c.current.ensures)
+    c.start_of-at.ensures.1 refl c.put_over.ensures

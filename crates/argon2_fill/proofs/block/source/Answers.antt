@@ -27,7 +27,7 @@ pub mixed-requires : goal.mixed-requires
 mixed-requires c =
     let m = c.args.memory.now in (
       c.requires.0,
-      (tail-length m _ _ c.start_of_lem.ensures.1 refl, tail-length m _ _ c.start_of-y.ensures.1 refl),
+      (tail-length m _ _ c.start_of-x.ensures.1 refl, tail-length m _ _ c.start_of-y.ensures.1 refl),
     )
 
 pub returns : goal.returns
@@ -37,7 +37,7 @@ returns c =
     let p = position a.p in
     let m = a.memory.now in
     source_is f p c.word-w.result m _ _ _ _ _
-    (c.start_of_lem.ensures.0 ∙ ap (λ (n : ℕ). n * 128) c.previous.ensures)
+    (c.start_of-x.ensures.0 ∙ ap (λ (n : ℕ). n * 128) c.previous.ensures)
     (c.start_of-y.ensures.0 ∙ ap (λ (n : ℕ). n * 128) c.reference.ensures)
     refl refl c.mixed.ensures
     ∙ ap (λ (w : ℕ). source f p w m) c.word-w.ensures

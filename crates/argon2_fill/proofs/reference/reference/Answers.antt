@@ -21,21 +21,18 @@ relative-z-requires c =
 
 pub overflow_add-first : goal.overflow_add-first
 overflow_add-first c =
-    let at_first = c in
-    let at-relative = at_first in
-    let at-area = at-relative in
-    let o = at-area.requires in
-    let a = at-area.args in
+    let o = c.requires in
+    let a = c.args in
     let f = figures a.f in
     let p = position a.p in
     let g = area-ge f p a.word o in
     let l = area-le f p (reference_lane f p a.word) o.placed in
-    let e = at-area.area.ensures in
-    let n = at_first.first.ensures in
+    let e = c.area-w.ensures in
+    let n = c.first.ensures in
     let k = first_le f p in
     let s = o.placed.fits.short in
-    let z = at-relative.relative.ensures in
-    let r = relative-lt at-area.area.result (a.word % 4294967296) (omega arith) in
+    let z = c.relative-z.ensures in
+    let r = relative-lt c.area-w.result (a.word % 4294967296) (omega arith) in
     record { fits = omega arith }
 
 pub block_at-requires : goal.block_at-requires
