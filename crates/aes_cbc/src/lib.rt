@@ -6,6 +6,7 @@
 // and invCipher. Each call builds its tables: some 2,000 instructions to encrypt, 8,000 to decrypt. Table look-ups are
 // not constant-time.
 #![tactic(auto)]
+
 ghost use Rattle.std.specs.Prelude.{◌≡◌, ◌≤◌, length, take};
 ghost use Rattle.aes_tables.specs.Tables as tables;
 ghost use Rattle.aes.specs.Columns.{columns};

@@ -26,7 +26,7 @@ returns c =
     let td = c.td-td.ensures ∙ mixed-inverse c.inverse-inverse.ensures in
     let dual = c.dual-dual.ensures ∙ dual_by-td c.te-te.ensures td w in
     record {
-      value = c.store.ensures ∙ run.0 ∙ ap (λ (p : List ℕ). previous p d) c.load.ensures;
-      out_after = run.1 ∙ ap₂ (λ (v p : List ℕ). over (eq_decrypt v p d) d) dual c.load.ensures
+      value = c.store.ensures ∙ run.result_value ∙ ap (λ (p : List ℕ). previous p d) c.load.ensures;
+      out_after = run.out_after ∙ ap₂ (λ (v p : List ℕ). over (eq_decrypt v p d) d) dual c.load.ensures
           ∙ ap (λ (t : List ℕ). over t d) (decrypt_same _ (λ s. inv_cipher s w) (λ s. eq_inv_cipher-dual s w) _ d);
     }

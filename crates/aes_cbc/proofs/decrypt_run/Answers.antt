@@ -47,8 +47,8 @@ loop-i-preserved c =
     let by-td = eq_inv_cipher_by-td c.requires.0 c.requires.1 v (columns x) (columns-block x.a x.b x.c x.d) in
     let whole =
     decrypt-turn (under v) (keeps v) prev refl d l.i fits l.out l.invariant.1.1.1.1.0
-    (columns c.load_front-x.result) (columns c.decrypt-p.result) (columns l) (columns c.xor.result)
-    c.store_front.new.0 (length l.out - 16 * l.i)
+    (columns c.load_front-x.result) (columns c.decrypt-p.result) (columns l.before) (columns c.xor.result)
+    c.store_front.new.out (length l.out - 16 * l.i)
     block (c.decrypt-p.ensures ∙ by-td) l.invariant.1.1.1.0 c.xor.ensures
     (omega arith) c.store_front.ensures in (
       search rules,

@@ -14,6 +14,6 @@ returns c =
     let w = a.keys.words in
     let run = c.encrypt_run-before.ensures in
     record {
-      value = c.store.ensures ∙ run.0 ∙ ap (λ (p : List ℕ). previous p (encrypt w p d)) c.load.ensures;
-      out_after = run.1 ∙ ap (λ (p : List ℕ). over (encrypt w p d) d) c.load.ensures;
+      value = c.store.ensures ∙ run.result_value ∙ ap (λ (p : List ℕ). previous p (encrypt w p d)) c.load.ensures;
+      out_after = run.out_after ∙ ap (λ (p : List ℕ). over (encrypt w p d) d) c.load.ensures;
     }

@@ -48,8 +48,8 @@ loop-i-preserved c =
     let by-te = cipher_by-te c.requires w (columns x) (columns-block x.a x.b x.c x.d) in
     let turn =
     encrypt-turn (under w) (keeps w) prev refl d l.i fits l.out l.invariant.1.1.1.1.0
-    (columns c.load_front-p.result) (columns l) (columns c.xor.result) (columns c.encrypt-c.result)
-    c.store_front.new.0 (length l.out - 16 * l.i)
+    (columns c.load_front-p.result) (columns l.before) (columns c.xor.result) (columns c.encrypt-c.result)
+    c.store_front.new.out (length l.out - 16 * l.i)
     block l.invariant.1.1.1.0 c.xor.ensures (c.encrypt-c.ensures ∙ by-te)
     (omega arith) c.store_front.ensures in (
       search rules,
