@@ -4,6 +4,7 @@
 // The contracts cite specs/Pkcs7. The check looks at every byte of the last piece, whichever of them are wrong; what it
 // says in document 01's numbers is in specs/Answers. Refusal: 16.
 #![tactic(auto)]
+
 ghost use Rattle.std.specs.Prelude.{◌≡◌, [], ◌∷◌, ◌<◌};
 ghost use Rattle.pkcs7.specs.Pkcs7 as pkcs7;
 ghost use Rattle.pkcs7.specs.Answer.{answer, padded, wrong_bits};

@@ -17,14 +17,14 @@ use Rattle.pkcs7.proofs.check.Goals as goal
 
 pub loop-i-init : goal.loop-i-init
 loop-i-init c =
-    let s = c.args.t1 in
+    let s = c.args.piece in
     let n : length s ≡ 16 = search rules in
     (omega arith, n, sym (checked_from_end (get_or s 15 0) s n))
 
 pub loop-i-preserved : goal.loop-i-preserved
 loop-i-preserved c =
     let l = c.loop-i in
-    let s = c.args.t1 in
+    let s = c.args.piece in
     let p = get_or s 15 0 in
     let e : l.i - 1 + 1 ≡ l.i = omega arith in
     let h = l.invariant.2 ∙ ap (λ (k : ℕ). checked_from p k (drop k s)) (sym e) in
@@ -42,7 +42,7 @@ returns-then-p-gt16 c =
 pub returns-then-d-eq0 : goal.returns-then-d-eq0
 returns-then-d-eq0 c =
     let l = c.loop-i in
-    let s = c.args.t1 in
+    let s = c.args.piece in
     let z : l.i ≡ 0 = omega arith in
     let t = sym (eq-eqb _ 0 c.if-d-eq0.true) ∙ l.invariant.2 ∙ ap (λ (k : ℕ). checked_from (get_or s 15 0) k (drop k s)) z in
     said_too said (answer-checked s _ l.invariant.1 refl c.if-p-eq0.false c.if-p-gt16.false true t)
@@ -50,7 +50,7 @@ returns-then-d-eq0 c =
 pub returns : goal.returns
 returns c =
     let l = c.loop-i in
-    let s = c.args.t1 in
+    let s = c.args.piece in
     let z : l.i ≡ 0 = omega arith in
     let t = sym (ne_eqb _ 0 c.if-d-eq0.false) ∙ l.invariant.2 ∙ ap (λ (k : ℕ). checked_from (get_or s 15 0) k (drop k s)) z in
     said_too said (answer-checked s _ l.invariant.1 refl c.if-p-eq0.false c.if-p-gt16.false false t)
