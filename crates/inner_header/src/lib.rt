@@ -8,6 +8,7 @@
 // Refusals: 1; of each field 2, 7, 6, 5, 2; 8, 9; and 8 for an attachment index past the last. Each operation walks
 // over the fields once.
 #![tactic(auto)]
+
 ghost use Rattle.std.specs.Prelude.{◌≡◌, ◌<◌, length};
 ghost use Rattle.inner_header.specs.InnerHeader as kdbx4;
 ghost use Rattle.inner_header.specs.Answers as answers;

@@ -29,19 +29,7 @@ use Rattle.fields.specs.declared.Field.TheVariants as field
 use Rattle.fields.specs.Fields.{end_of, field_at, nowhere}
 use Rattle.fields.proofs.Laws.Fields.{Stands, field_at_stands}
 use Rattle.inner_header.specs.declared.Tally.{Tally}
-use Rattle.inner_header.specs.InnerHeader.{
-  Fields,
-  listed,
-  rule_of,
-  repeated,
-  field_of,
-  put,
-  Walked,
-  ended,
-  refused,
-  walk_in,
-  walk,
-}
+use Rattle.inner_header.specs.InnerHeader.{Fields, listed, rule_of, repeated, field_of, put, Walked, ended, walk_in, walk}
 use Rattle.inner_header.specs.Tally.{tally_of, put_tally}
 
 pub field_of_stands : (a k : Place) (s : List ℕ) (at id : ℕ) (p : Place) → field_of a k s at ≡ field.At id p

@@ -3,7 +3,6 @@
 use mathlib.Core.Path.{◌≡◌, refl, sym, ap, ◌∙◌}
 use Prim.Native.Nat.{◌+◌}
 use native.Mathlib.Omega.{arith}
-use lib.ListN.{length}
 use borrow.Author.Tests.{eq-eqb, ne_eqb}
 use Rattle.inner_header.specs.InnerHeader.{no_fields, put, Walked, walk_in, walk}
 use Rattle.inner_header.specs.declared.Tally.{Tally}
