@@ -6,7 +6,6 @@
 use mathlib.Core.Path.{◌≡◌, refl}
 use mathlib.Core.Bool.{true, false}
 use mathlib.Core.List.{[], ◌∷◌}
-use Prim.Native.Nat.{ℕ}
 use Rattle.decimal.specs.Decimal.{digit, decimal_in, decimal, is_digit, all_digits, is_decimal, value_from, value}
 
 pub none : decimal 0 ≡ 0x30 ∷ []

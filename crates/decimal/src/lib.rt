@@ -2,6 +2,7 @@
 //
 // The contract cites specs/Decimal. Nothing is refused: twenty digits hold every number of 64 bits.
 #![tactic(auto)]
+
 ghost use Rattle.std.specs.Prelude.{◌≡◌, ◌+◌, length, drop};
 ghost use Rattle.decimal.specs.Decimal as decimals;
 

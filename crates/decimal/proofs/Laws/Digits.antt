@@ -6,13 +6,12 @@
 --   Stands, Ends                        the digits that stand in a text: some, all
 --   stands_none, stands_last, stands_more, stands_all    as the code writes them
 -- Assumes nothing.
-use mathlib.Core.Path.{◌≡◌, refl, sym, ap, ◌∙◌}
-use mathlib.Core.Bool.{true, false}
+use mathlib.Core.Path.{◌≡◌, ap, ◌∙◌}
 use mathlib.Core.List.{List, [], ◌∷◌, ◌++◌, append_assoc, append-nil}
 use Prim.Native.Nat.{ℕ, zero, suc, ◌+◌, ◌-◌, ◌/◌, ◌%◌, ◌≤◌, ◌<◌}
 use native.Mathlib.Omega.{arith}
 use lib.Dec.{ltb}
-use lib.ListN.{length, drop, set, get_or, length-set, length-append, length-drop, drop_of_length-le}
+use lib.ListN.{length, drop, set, length-set, length-append, length-drop, drop_of_length-le}
 use lib.Seq.{drop-cons, get_or-set_same, drop-set-lt}
 use borrow.Author.Tests.{lt-ltb, le-ltb}
 use Rattle.words.proofs.Laws.Cases.{by_bool}
@@ -56,13 +55,13 @@ pub record Stands (n : ℕ) (t : List ℕ) (at rest : ℕ) : Type 0 where
 
 -- the digits stand in t from `at` on
 abbrev pub Ends : ℕ → List ℕ → ℕ → Type 0
-Ends n t at = (drop at t ≡ decimal n) × (at + length (decimal n) ≡ 20)
+Ends n t at = record { text_value : drop at t ≡ decimal n; n_value : at + length (decimal n) ≡ 20 }
 
 ends : (n : ℕ) (t : List ℕ) (at : ℕ) → length t ≡ 20 → at ≤ 20 → drop at t ≡ decimal n → Ends n t at
 ends n t at l h e =
     let f = ap (λ (w : List ℕ). length w) e in
     let g = length-drop at t in
-    (e, omega arith)
+    record { text_value = e; n_value = omega arith }
 
 pub stands_none : (n : ℕ) (t : List ℕ) → length t ≡ 20 → Stands n t 20 n
 unfolding decimal
