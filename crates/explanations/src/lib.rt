@@ -3,6 +3,7 @@
 // The contracts cite specs/Sentences. Nothing is refused. docs/REFUSALS.md has the same sentences, and the program
 // `vectors_open` prints them all.
 #![tactic(auto)]
+
 ghost use Rattle.std.specs.Prelude.{◌≡◌};
 ghost use Rattle.explanations.specs.Sentences as sentences;
 
