@@ -12,7 +12,10 @@
 // needs more opens where the stack may have 80 MiB (examples/open.sh asks for that). Where the stack may not have as
 // much as the memory asks for, the vault is refused with 17.
 #![tactic(auto)]
-use libc::{STDERR_FILENO, STDIN_FILENO, STDOUT_FILENO};
+
+use std::env::{Env, FillError};
+use std::io;
+use std::io::IsTerminal;
 use unlocking::input::Input;
 use unlocking::{Unlocked, input, stack};
 
@@ -25,94 +28,123 @@ const MUCH: usize = 8_388_608;
 // Bytes of stack that have room for those.
 const LARGE_STACK: u32 = 83_886_080;
 
-fn main() {
-    let n = os::arg_count();
-    if n == 2 {
-        open_vault(false);
-        return;
+fn main(rt: HostRuntime) -> io::Result<()> {
+    if is_given(&rt, 1) && !is_given(&rt, 2) {
+        return open_vault(&rt, false);
     }
-    if n == 3 {
-        open_vault(true);
-        return;
+    if is_given(&rt, 2) && !is_given(&rt, 3) {
+        return open_vault(&rt, true);
     }
-    io::write_all(
-        STDERR_FILENO,
-        b"Use: open VAULT [KEYFILE], with the password as a line on standard input\n",
-    );
+    eprintln!(rt; "Use: open VAULT [KEYFILE], with the password as a line on standard input")
+}
+
+// Whether the program has an argument i.
+fn is_given(rt: &HostRuntime, i: usize) -> bool {
+    let mut none = [0u8; 0];
+    match rt.arg(i, &mut none) {
+        Err(FillError::NotPresent) => false,
+        _ => true,
+    }
 }
 
 // Reads the file that an argument names into `buf`; says why not where it cannot be opened.
-fn read_named(i: usize, buf: &mut [u8]) -> Input {
-    let mut path = io::buffer();
-    let n = os::arg(i, &mut path);
-    let read = input::read_file(&path[..n], buf);
-    if let Input::NotOpened = read {
-        os::fail(&path[..n]);
+fn read_named(rt: &HostRuntime, i: usize, buf: &mut [u8]) -> io::Result<Input> {
+    let mut path = console::buffer();
+    let n = rt.arg(i, &mut path).unwrap_or(0);
+    let read = input::read_file(rt, &path[..n], buf);
+    if let Input::NotOpened(why) = read {
+        fail(rt, &path[..n], why)?;
     }
-    read
+    Ok(read)
+}
+
+// Writes a line to standard error: what failed, a colon and why. The text of an error of the system ends in its number,
+// which is left out.
+fn fail(rt: &HostRuntime, what: &[u8], why: io::Error) -> io::Result<()> {
+    let text = format!(in rt.alloc(); "{why}")?;
+    let said = match text.as_str().split_once(" (os error ") {
+        Some((said, _)) => said,
+        None => text.as_str(),
+    };
+    rt.stderr().write_all(what)?;
+    eprintln!(rt; ": {said}")
 }
 
 // Opens the vault that the first argument names.
-fn open_vault(has_key_file: bool) {
+fn open_vault(rt: &HostRuntime, has_key_file: bool) -> io::Result<()> {
     let mut space = input::room();
-    match read_named(1, &mut space) {
-        Input::NotOpened => {}
-        Input::Bytes(n) => open_file(slices::part(&space, 0, n), has_key_file),
+    match read_named(rt, 1, &mut space)? {
+        Input::NotOpened(_) => Ok(()),
+        Input::Bytes(n) => open_file(rt, slices::part(&space, 0, n), has_key_file),
     }
 }
 
 // Opens a vault, with the key file that the second argument names where there is one.
-fn open_file(file: &[u8], has_key_file: bool) {
+fn open_file(rt: &HostRuntime, file: &[u8], has_key_file: bool) -> io::Result<()> {
     if has_key_file {
         let mut space = input::room();
-        match read_named(2, &mut space) {
-            Input::NotOpened => {}
-            Input::Bytes(n) => open_typed(file, slices::part(&space, 0, n), true),
-        }
-        return;
+        return match read_named(rt, 2, &mut space)? {
+            Input::NotOpened(_) => Ok(()),
+            Input::Bytes(n) => open_typed(rt, file, slices::part(&space, 0, n), true),
+        };
     }
-    open_typed(file, &file[..0], false);
+    open_typed(rt, file, &file[..0], false)
 }
 
 // Opens a vault, with the password of standard input where there is one.
-fn open_typed(file: &[u8], key_file: &[u8], has_key_file: bool) {
-    ask();
+fn open_typed(
+    rt: &HostRuntime,
+    file: &[u8],
+    key_file: &[u8],
+    has_key_file: bool,
+) -> io::Result<()> {
+    ask(rt);
     let mut space = input::room();
-    let line = input::read_line(STDIN_FILENO, &mut space);
+    let line = input::read_line(&mut rt.stdin(), &mut space);
     open_shown(
+        rt,
         file,
         slices::part(&space, 0, line.length),
         line.given,
         key_file,
         has_key_file,
-    );
+    )
 }
 
 // Asks for the password where someone types it.
-fn ask() {
-    if libc::isatty(STDIN_FILENO) == 1 {
-        io::write_all(STDERR_FILENO, b"Password (shown as it is typed): ");
+fn ask(rt: &HostRuntime) {
+    if rt.stdin().is_terminal() {
+        let _ = eprint!(rt; "Password (shown as it is typed): ");
     }
 }
 
 // Opens a vault, with as much memory as its key needs.
 fn open_shown(
+    rt: &HostRuntime,
     file: &[u8],
     password: &[u8],
     has_password: bool,
     key_file: &[u8],
     has_key_file: bool,
-) {
+) -> io::Result<()> {
     let words = unlocking::words_needed(file);
-    open_lent(file, password, has_password, key_file, has_key_file, words);
+    open_lent(
+        rt,
+        file,
+        password,
+        has_password,
+        key_file,
+        has_key_file,
+        words,
+    )
 }
 
 // How many words of memory the stack has room for.
-fn room() -> usize {
-    if stack::has_room(LARGE_STACK) {
+fn room(rt: &HostRuntime) -> usize {
+    if stack::has_room(rt, LARGE_STACK) {
         return MUCH;
     }
-    if stack::has_room(SMALL_STACK) {
+    if stack::has_room(rt, SMALL_STACK) {
         return FEW;
     }
     0
@@ -121,16 +153,18 @@ fn room() -> usize {
 // Opens a vault in so many words of memory, or in as many as the stack has room for. It calls itself, so that the
 // compiler gives the functions that hold the memory frames of their own: a vault that needs few words takes few.
 fn open_lent(
+    rt: &HostRuntime,
     file: &[u8],
     password: &[u8],
     has_password: bool,
     key_file: &[u8],
     has_key_file: bool,
     words: usize,
-) {
+) -> io::Result<()> {
     if words == 0 {
         let mut none = [0u64; 0];
-        open_in(
+        return open_in(
+            rt,
             file,
             password,
             has_password,
@@ -138,82 +172,90 @@ fn open_lent(
             has_key_file,
             &mut none,
         );
-        return;
     }
-    let most = room();
+    let most = room(rt);
     if most < words {
-        open_lent(file, password, has_password, key_file, has_key_file, most);
-        tell_need(words, most);
-        return;
+        open_lent(
+            rt,
+            file,
+            password,
+            has_password,
+            key_file,
+            has_key_file,
+            most,
+        )?;
+        return tell_need(rt, words, most);
     }
     if words <= FEW {
-        open_in_few(file, password, has_password, key_file, has_key_file);
-        return;
+        return open_in_few(rt, file, password, has_password, key_file, has_key_file);
     }
-    open_in_much(file, password, has_password, key_file, has_key_file);
+    open_in_much(rt, file, password, has_password, key_file, has_key_file)
 }
 
 // Tells how much memory a vault needs that the stack has no room for.
-fn tell_need(words: usize, most: usize) {
-    io::write_all(STDERR_FILENO, b"The vault's key needs ");
-    io::print_decimal(STDERR_FILENO, (words / 128) as u64);
-    io::write_all(
-        STDERR_FILENO,
-        b" KiB of memory, and the stack has room for ",
-    );
-    io::print_decimal(STDERR_FILENO, (most / 128) as u64);
-    io::write_all(STDERR_FILENO, b" KiB.\n");
+fn tell_need(rt: &HostRuntime, words: usize, most: usize) -> io::Result<()> {
+    let needed = words / 128;
+    let there = most / 128;
+    eprintln!(rt;
+        "The vault's key needs {needed} KiB of memory, and the stack has room for {there} KiB."
+    )
 }
 
 // Opens a vault in 4 MiB of memory.
 fn open_in_few(
+    rt: &HostRuntime,
     file: &[u8],
     password: &[u8],
     has_password: bool,
     key_file: &[u8],
     has_key_file: bool,
-) {
+) -> io::Result<()> {
     let mut memory = [0u64; 524_288];
     open_in(
+        rt,
         file,
         password,
         has_password,
         key_file,
         has_key_file,
         &mut memory,
-    );
+    )
 }
 
 // Opens a vault in 64 MiB of memory.
 fn open_in_much(
+    rt: &HostRuntime,
     file: &[u8],
     password: &[u8],
     has_password: bool,
     key_file: &[u8],
     has_key_file: bool,
-) {
+) -> io::Result<()> {
     let mut memory = [0u64; 8_388_608];
     open_in(
+        rt,
         file,
         password,
         has_password,
         key_file,
         has_key_file,
         &mut memory,
-    );
+    )
 }
 
 // Opens a vault in lent memory, and writes its document or why it is refused.
 fn open_in(
+    rt: &HostRuntime,
     file: &[u8],
     password: &[u8],
     has_password: bool,
     key_file: &[u8],
     has_key_file: bool,
     memory: &mut [u64],
-) {
-    let mut out = io::large_buffer();
+) -> io::Result<()> {
+    let mut out = console::large_buffer();
     match unlocking::unlock(
+        rt,
         file,
         password,
         has_password,
@@ -222,13 +264,10 @@ fn open_in(
         &mut out,
         memory,
     ) {
-        Unlocked::Refused(why) => unlocking::report::refusal(STDERR_FILENO, why),
-        Unlocked::PayloadRefused(why) => unlocking::report::payload_refusal(STDERR_FILENO, why),
+        Unlocked::Refused(why) => unlocking::report::refusal(&rt.stderr(), why),
+        Unlocked::PayloadRefused(why) => unlocking::report::payload_refusal(&rt.stderr(), why),
         Unlocked::Document(start, end) => {
-            io::write_all(
-                STDOUT_FILENO,
-                slices::part(slices::part(&out, 0, end), start, end),
-            );
+            rt.write_all(slices::part(slices::part(&out, 0, end), start, end))
         }
     }
 }

@@ -3,11 +3,16 @@
 // Of what is read nothing is promised but that each function is safe and ends.
 ghost use Rattle.std.specs.Prelude.{◌≡◌, length};
 
-// How many bytes were read, or that the file cannot be opened.
+use std::fs::File;
+use std::io;
+use std::io::Read;
+use std::rt::Files;
+
+// How many bytes were read, or why the file cannot be opened.
 #[derive(Clone, Copy)]
 pub enum Input {
     Bytes(usize),
-    NotOpened,
+    NotOpened(io::Error),
 }
 
 // A line's length without its line feed, and whether there was one: an empty line is one, an input of no bytes is not.
@@ -31,31 +36,36 @@ pub fn room() -> [u8; 65_537]
     [0; 65_537]
 }
 
-// Reads a file from its start, as much as `buf` has room for. A read that fails counts as the file's end.
-pub fn read_file(path: &[u8], buf: &mut [u8]) -> Input {
-    let fd = os::open_read(path);
-    if fd < 0 {
-        return Input::NotOpened;
+// Opens a file to read it. A path is text, so bytes that are none name no file.
+fn open<R: Files>(rt: &R, path: &[u8]) -> io::Result<R::File> {
+    match str::from_utf8(path) {
+        Ok(path) => File::open(rt, path),
+        Err(_) => Err(io::Error::from(io::ErrorKind::InvalidFilename)),
     }
-    let n = io::read_full(fd, buf);
-    libc::close(fd);
-    Input::Bytes(n)
+}
+
+// Reads a file from its start, as much as `buf` has room for. A read that fails counts as the file's end.
+pub fn read_file(rt: &impl Files, path: &[u8], buf: &mut [u8]) -> Input {
+    match open(rt, path) {
+        Ok(mut file) => Input::Bytes(console::read_full(&mut file, buf)),
+        Err(e) => Input::NotOpened(e),
+    }
 }
 
 // Reads one byte, so that nothing behind a line is taken.
-fn read_byte(fd: i32) -> Next {
+fn read_byte(from: &mut impl Read) -> Next {
     let mut b = [0u8; 1];
-    if libc::read(fd, &mut b) == 1 {
+    if console::read_full(from, &mut b) == 1 {
         return Next::Byte(b[0]);
     }
     Next::End
 }
 
 // Reads a line, as much as `buf` has room for.
-pub fn read_line(fd: i32, buf: &mut [u8]) -> Line {
+pub fn read_line(from: &mut impl Read, buf: &mut [u8]) -> Line {
     let mut at: usize = 0;
     while at < buf.len() {
-        match read_byte(fd) {
+        match read_byte(from) {
             Next::End => {
                 return Line {
                     length: at,

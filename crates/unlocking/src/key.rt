@@ -12,32 +12,30 @@ ghost use Rattle.unlocking.specs.Unlocking as unlocking;
 
 use argon2::{Kind, Transformed};
 use kdf_dictionary::{AesKdf, Argon2, Kdf};
-use libc::STDERR_FILENO;
 use outer_header::Header;
 use refusals::Outcome;
 
 // T by AES-KDF.
-fn by_rounds(f: &[u8], k: AesKdf, composite: [u8; 32]) -> [u8; 32]
+fn by_rounds(rt: &impl Eprint, f: &[u8], k: AesKdf, composite: [u8; 32]) -> [u8; 32]
     requires seed_len { length (bytes_at f.now k.seed) ≡ 32 }
     requires rounds_le_rounds_limit { k.rounds ≤ rounds_limit }
     ensures { result ≡ kdf.transformed_key composite (bytes_at f.now k.seed) k.rounds }
 {
     let mut seed = [0u8; 32];
     slices::copy(&mut seed, slices::part(f, k.seed.start, k.seed.length));
-    crate::rounds::transform(composite, seed, k.rounds)
+    crate::rounds::transform(rt, composite, seed, k.rounds)
 }
 
 // The memory, in KiB, and the passes of a run of Argon2, as a line.
-fn announce(a: Argon2) {
-    io::write_all(STDERR_FILENO, b"Argon2: memory ");
-    io::print_decimal(STDERR_FILENO, a.memory / 1024);
-    io::write_all(STDERR_FILENO, b" KiB, passes ");
-    io::print_decimal(STDERR_FILENO, a.passes);
-    io::write_all(STDERR_FILENO, b"\n");
+fn announce(rt: &impl Eprint, a: Argon2) {
+    let memory = a.memory / 1024;
+    let passes = a.passes;
+    let _ = eprintln!(rt; "Argon2: memory {memory} KiB, passes {passes}");
 }
 
 // T by Argon2, in lent memory.
 fn by_argon2(
+    rt: &impl Eprint,
     f: &[u8],
     kind: Kind,
     a: Argon2,
@@ -47,7 +45,7 @@ fn by_argon2(
     ensures value { result ≡ unlocking.argon2_key kind a composite f.now (length memory.old) }
     ensures memory_after { memory.new ≡ unlocking.argon2_left kind a composite f.now memory.old }
 {
-    announce(a);
+    announce(rt, a);
     argon2::transform(
         kind,
         composite,
@@ -60,7 +58,13 @@ fn by_argon2(
 }
 
 // T of a composite key and an accepted header.
-pub(crate) fn key_of(f: &[u8], h: Header, composite: [u8; 32], memory: &mut [u64]) -> Transformed
+pub(crate) fn key_of(
+    rt: &impl Eprint,
+    f: &[u8],
+    h: Header,
+    composite: [u8; 32],
+    memory: &mut [u64],
+) -> Transformed
     requires { header f.now ≡ read.Header h }
     ensures value { result ≡ unlocking.key_of h.kdf composite f.now (length memory.old) }
     ensures memory_after { memory.new ≡ unlocking.memory_after h.kdf composite f.now memory.old }
@@ -68,14 +72,14 @@ pub(crate) fn key_of(f: &[u8], h: Header, composite: [u8; 32], memory: &mut [u64
     let kdf = h.kdf;
     match kdf {
         Kdf::AesKdf(k) => {
-            let key = by_rounds(f, k, composite);
+            let key = by_rounds(rt, f, k, composite);
             return Transformed {
                 outcome: Outcome::Accepted,
                 key,
             };
         }
-        Kdf::Argon2d(a) => return by_argon2(f, Kind::Argon2d, a, composite, memory),
-        Kdf::Argon2id(a) => return by_argon2(f, Kind::Argon2id, a, composite, memory),
+        Kdf::Argon2d(a) => return by_argon2(rt, f, Kind::Argon2d, a, composite, memory),
+        Kdf::Argon2id(a) => return by_argon2(rt, f, Kind::Argon2id, a, composite, memory),
     }
 }
 

@@ -9,6 +9,7 @@
 // tells); of the start and the steps; of the inner header. What accepted steps wrote stays. Of the lent words, those
 // that Argon2 used are zeros; all others stay.
 #![tactic(auto)]
+
 ghost use Rattle.std.specs.Prelude.{◌≡◌, not, length};
 ghost use Rattle.refusals.specs.Limits.{program_limit};
 ghost use Rattle.slices.specs.Over.{over};
@@ -111,6 +112,7 @@ fn open_under(f: &[u8], outcome: Outcome, t: [u8; 32], out: &mut [u8]) -> Unlock
 
 // Opens a vault whose header is read, by its composite key.
 fn open_with(
+    rt: &impl Eprint,
     f: &[u8],
     h: Header,
     composite: [u8; 32],
@@ -122,26 +124,33 @@ fn open_with(
     ensures out_after { out.new ≡ over (unlocking.opening_with h.kdf composite f.now (length out.old) memory.old).bytes out.old }
     ensures memory_after { memory.new ≡ (unlocking.opening_with h.kdf composite f.now (length out.old) memory.old).memory }
 {
-    let t = key::key_of(f, h, composite, memory);
+    let t = key::key_of(rt, f, h, composite, memory);
     let outcome = t.outcome;
     let key = t.key;
     open_under(f, outcome, key, out)
 }
 
 // Opens a vault by its composite key.
-fn open_by(f: &[u8], composite: [u8; 32], out: &mut [u8], memory: &mut [u64]) -> Unlocked
+fn open_by(
+    rt: &impl Eprint,
+    f: &[u8],
+    composite: [u8; 32],
+    out: &mut [u8],
+    memory: &mut [u64],
+) -> Unlocked
     ensures value { result ≡ (unlocking.opening_by (header f.now) composite f.now (length out.old) memory.old).answer }
     ensures out_after { out.new ≡ over (unlocking.opening_by (header f.now) composite f.now (length out.old) memory.old).bytes out.old }
     ensures memory_after { memory.new ≡ (unlocking.opening_by (header f.now) composite f.now (length out.old) memory.old).memory }
 {
     match outer_header::read(f) {
         Reading::Refused(r) => return Unlocked::Refused(r),
-        Reading::Header(h) => return open_with(f, h, composite, out, memory),
+        Reading::Header(h) => return open_with(rt, f, h, composite, out, memory),
     }
 }
 
 // Opens a vault by what is given of password and key file.
 fn open_as(
+    rt: &impl Eprint,
     f: &[u8],
     password: &[u8],
     has_password: bool,
@@ -167,12 +176,13 @@ fn open_as(
     let key = c.key;
     match outcome {
         Outcome::Refused(r) => return Unlocked::Refused(r),
-        Outcome::Accepted => return open_by(f, key, out, memory),
+        Outcome::Accepted => return open_by(rt, f, key, out, memory),
     }
 }
 
 // The same, with every input within a PC program's limit.
 pub fn unlock(
+    rt: &impl Eprint,
     f: &[u8],
     password: &[u8],
     has_password: bool,
@@ -196,6 +206,7 @@ pub fn unlock(
         return Unlocked::Refused(Refusal::TooLong);
     }
     open_as(
+        rt,
         f,
         password,
         has_password,

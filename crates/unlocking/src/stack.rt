@@ -6,6 +6,7 @@ ghost use Rattle.unlocking.specs.Stack as limits;
 
 use crate::input;
 use input::Input;
+use std::rt::Files;
 
 // Whether a word stands at a place.
 fn begins(s: &[u8], at: usize, w: &[u8]) -> bool
@@ -84,10 +85,10 @@ pub fn allows(text: &[u8], bytes: u32) -> bool
 }
 
 // Whether the process may use so many bytes of stack.
-pub fn has_room(bytes: u32) -> bool {
-    let mut text = io::buffer();
-    match input::read_file(b"/proc/self/limits", &mut text) {
-        Input::NotOpened => return false,
+pub fn has_room(rt: &impl Files, bytes: u32) -> bool {
+    let mut text = console::buffer();
+    match input::read_file(rt, b"/proc/self/limits", &mut text) {
+        Input::NotOpened(_) => return false,
         Input::Bytes(n) => return allows(slices::part(&text, 0, n), bytes),
     }
 }
