@@ -173,6 +173,7 @@ end_refused m rs l p x (spent k t q) r e = inr (k, t, q)
 taken_none : (l : List Answer) (r : Refusal) → Taking l
     → Some (λ (a : Answer). a.written ≡ written.Refused r) l → ⊥
 unfolding Taking
+taken_none _ r none i = elim i [ ]
 taken_none _ r (both h t) (here e) = h r e
 taken_none _ r (both h t) (there s) = taken_none _ r t s
 
@@ -184,6 +185,7 @@ taken_room _ (both h t) = both (h NoRoom) (taken_room _ t)
 each_some : (X : Refusal → Type 0) (l : List Answer) (r : Refusal)
     → Each (λ (a : Answer). (q : Refusal) → a.written ≡ written.Refused q → Closing q → X q) l
     → Some (λ (a : Answer). a.written ≡ written.Refused r) l → Closing r → X r
+each_some X _ r none i c = elim i [ ]
 each_some X _ r (both h t) (here e) c = h r e c
 each_some X _ r (both h t) (there s) c = each_some X _ r t s c
 

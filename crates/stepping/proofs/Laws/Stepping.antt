@@ -7,11 +7,10 @@
 --   on_refusal, on_closing, on_data    the same of the slice that the code writes into
 --   going_none            no step left
 --   ran_refused, ran_accepted          the start before them
---   no_ended_tag          of two tags, neither is the ended mark's
 -- Not here: one step (crate opening).
 -- Assumes nothing.
 use mathlib.Core.Path.{◌≡◌, refl, sym, ap, ◌∙◌}
-use mathlib.Core.Logic.{◌≢◌, ◌⊎◌, inl, inr}
+use mathlib.Core.Logic.{◌≢◌}
 use mathlib.Core.List.{List, [], ◌++◌, append_assoc, append-nil}
 use Prim.Native.Nat.{ℕ, zero, suc, ◌+◌, ◌-◌, ◌≤◌, ◌<◌}
 use native.Mathlib.Nat.{sub-zero}
@@ -138,16 +137,20 @@ module _ (f d : List ℕ) (all : Ran) (o : Opener) (at left : ℕ) (out : List �
   as_long i = ap (λ (x : List ℕ). length x) written_behind ∙ length_over (take at out ++ b) d i
 
   going_ends : (x : Outcome) → stepping left f o (length d - at) ≡ record { outcome = x; bytes = b }
-      → (written_by x (length (take at out ++ b)) ≡ written_of all)
-      × (take at out ++ (ys ++ drop k (drop at out)) ≡ over all.bytes d)
+      → record {
+        value : written_by x (length (take at out ++ b)) ≡ written_of all;
+        out_after : take at out ++ (ys ++ drop k (drop at out)) ≡ over all.bytes d;
+      }
   going_ends x e =
       let i : x ≡ all.outcome = sym (ap (λ (z : Ran). z.outcome) e) ∙ y.outcome_is in
       let j : take at out ++ b ≡ all.bytes =
-      ap (λ (z : Ran). take at out ++ z.bytes) (sym e) ∙ y.bytes_are in (
-        ap (λ (z : Outcome). written_by z (length (take at out ++ b))) i
-            ∙ ap (λ (z : List ℕ). written_by all.outcome (length z)) j,
-        written_behind ∙ ap (λ (z : List ℕ). over z d) j,
-      )
+      ap (λ (z : Ran). take at out ++ z.bytes) (sym e) ∙ y.bytes_are in
+      record {
+        value =
+            ap (λ (z : Outcome). written_by z (length (take at out ++ b))) i
+            ∙ ap (λ (z : List ℕ). written_by all.outcome (length z)) j;
+        out_after = written_behind ∙ ap (λ (z : List ℕ). over z d) j;
+      }
 
   going_more : (o' : Opener) (left' c : ℕ) → length b ≡ c → at + c ≤ length d
       → stepping left f o (length d - at)
@@ -202,8 +205,10 @@ module _ (f d : List ℕ) (all : Ran) (o : Opener) (at left : ℕ) (out : List �
       as_long f d all o at left out y (length out - at) ys _ refl v (simp length-append (omega (arith, t, g)))
 
   pub on_refusal : (r : Refusal) → (step_of f o (lent at out)).answer.written ≡ written.Refused r
-      → (written.Refused r ≡ written_of all)
-      × (take at out ++ (ys ++ drop (length out - at) (drop at out)) ≡ over all.bytes d)
+      → record {
+        value : written.Refused r ≡ written_of all;
+        out_after : take at out ++ (ys ++ drop (length out - at) (drop at out)) ≡ over all.bytes d;
+      }
   unfolding written_by
   on_refusal r e =
       let n = (step_of_kept f o (lent at out)).nothing r e in
@@ -224,8 +229,10 @@ module _ (f d : List ℕ) (all : Ran) (o : Opener) (at left : ℕ) (out : List �
 
   pub on_closing : (c : ℕ) → (step_of f o (lent at out)).answer.written ≡ written.Wrote c
       → (step_of f o (lent at out)).next.phase ≡ Ended
-      → (written.Wrote (at + c) ≡ written_of all)
-      × (take at out ++ (ys ++ drop (length out - at) (drop at out)) ≡ over all.bytes d)
+      → record {
+        value : written.Wrote (at + c) ≡ written_of all;
+        out_after : take at out ++ (ys ++ drop (length out - at) (drop at out)) ≡ over all.bytes d;
+      }
   unfolding written_by
   on_closing c e g =
       let l = y.long in
@@ -236,7 +243,7 @@ module _ (f d : List ℕ) (all : Ran) (o : Opener) (at left : ℕ) (out : List �
       let n : length (take at out ++ b) ≡ at + c = simp length-append (omega (arith, m, t)) in
       let x = going_ends f d all o at left out y (length out - at) ys _ refl v outcome.Accepted
       (ap (λ (z : ℕ). stepping left f o z) (sym lent_is) ∙ after_closing f o left (lent at out) c h e g) in
-      (ap (λ (z : ℕ). written.Wrote z) (sym n) ∙ x.0, x.1)
+      record { value = ap (λ (z : ℕ). written.Wrote z) (sym n) ∙ x.value; out_after = x.out_after }
 
   pub on_data : (c : ℕ) (next : Opener) → (step_of f o (lent at out)).answer.written ≡ written.Wrote c
       → next ≡ (step_of f o (lent at out)).next → next.phase ≢ Ended
@@ -253,29 +260,34 @@ module _ (f d : List ℕ) (all : Ran) (o : Opener) (at left : ℕ) (out : List �
       ∙ ap (λ (z : Opener). joined b (stepping (left - 1) f z (length d - at - length b))) (sym i))
 
 pub going_none : (f d : List ℕ) (all : Ran) (o : Opener) (at left : ℕ) (out : List ℕ) → Going f d all o at left out
-    → left ≡ 0 → (written.Refused (CutShort 0) ≡ written_of all) × (out ≡ over all.bytes d)
+    → left ≡ 0
+    → record {
+      value : written.Refused (CutShort 0) ≡ written_of all;
+      out_after : out ≡ over all.bytes d;
+    }
 unfolding stepping written_by
-going_none f d all o at zero out y e = (
-  ap (λ (x : Outcome). written_by x (length all.bytes)) y.outcome_is,
-  y.out_is ∙ ap (λ (x : List ℕ). over x d) (sym (append-nil (take at out)) ∙ y.bytes_are),
-)
+going_none f d all o at zero out y e = record {
+  value = ap (λ (x : Outcome). written_by x (length all.bytes)) y.outcome_is;
+  out_after = y.out_is ∙ ap (λ (x : List ℕ). over x d) (sym (append-nil (take at out)) ∙ y.bytes_are);
+}
 going_none f d all o at (suc m) out y e = absurd (omega arith)
 
 pub ran_refused : (t f had : List ℕ) (n : ℕ) (o : Outcome) (r : Refusal) → o ≡ outcome_of (start t f)
     → o ≡ outcome.Refused r
-    → (written.Refused r ≡ written_of (ran_from t f n)) × (had ≡ over (ran_from t f n).bytes had)
+    → record {
+      value : written.Refused r ≡ written_of (ran_from t f n);
+      out_after : had ≡ over (ran_from t f n).bytes had;
+    }
 unfolding ran_from ran_by written_by
-ran_refused t f had n o r e h = rw (sym e ∙ h) (refl, sym (over_nil had))
+ran_refused t f had n o r e h = rw (sym e ∙ h) (record { value = refl; out_after = sym (over_nil had) })
 
 pub ran_accepted : (t f had out : List ℕ) (n : ℕ) (w : Written) (o : Outcome) (first : Opener)
     → o ≡ outcome_of (start t f) → first ≡ state_of (start t f) → o ≡ outcome.Accepted
     → w ≡ written_of (stepping (length f) f first n)
     → out ≡ over (stepping (length f) f first n).bytes had
-    → (w ≡ written_of (ran_from t f n)) × (out ≡ over (ran_from t f n).bytes had)
+    → record {
+      value : w ≡ written_of (ran_from t f n);
+      out_after : out ≡ over (ran_from t f n).bytes had;
+    }
 unfolding ran_from ran_by
-ran_accepted t f had out n w o first e i h g q = rw (sym e ∙ h, sym i) (g, q)
-
--- the tag of a mark that is open or closed is not that of an ended one
-pub no_ended_tag : (x : ℕ) → (x ≡ 0) ⊎ (x ≡ 1) → x ≡ 2 → ⊥
-no_ended_tag x (inl e) h = omega arith
-no_ended_tag x (inr e) h = omega arith
+ran_accepted t f had out n w o first e i h g q = rw (sym e ∙ h, sym i) (record { value = g; out_after = q })

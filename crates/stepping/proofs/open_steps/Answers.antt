@@ -14,4 +14,4 @@ returns-in-Accepted c =
     let a = c.args in
     let g = c.run_steps.ensures in
     ran_accepted a.t a.f.now a.out.now _ (length a.out.now) _ _ _ c.start-s.ensures.outcome_value
-    c.start-s.ensures.next_value c.in-Accepted.is g.0 g.1
+    c.start-s.ensures.next_value c.in-Accepted.is g.value g.out_after

@@ -2,11 +2,8 @@
 -- steps that are left hand over it is what all of them do. Assumes nothing.
 use mathlib.Core.Path.{sym, ap, ◌∙◌}
 use native.Mathlib.Omega.{arith}
-use denote.Enum.Declared.{tag_of}
 use Rattle.opening.specs.declared.Opener.{Opener}
-use Rattle.opening.specs.declared.Phase.{Phase}
-use Rattle.opening.specs.contracts.Phase.{the_type}
-use Rattle.stepping.proofs.Laws.Stepping.{going_start, same_long, count_fits, on_refusal, on_closing, on_data, going_none, no_ended_tag}
+use Rattle.stepping.proofs.Laws.Stepping.{going_start, same_long, count_fits, on_refusal, on_closing, on_data, going_none}
 use borrow.Author.Rules.{rules}
 use Rattle.stepping.proofs.run_steps.Goals as goal
 
@@ -76,7 +73,7 @@ loop-left-preserved c =
     on_data a.f.now a.out.now _ l.o l.at l.left l.out l.invariant
     (search rules) _ c.step-s.ensures.out_after _ _ (sym c.step-s.ensures.answer_value ∙ c.in-Wrote.is)
     c.step-s.ensures.next_value
-    (λ e. no_ended_tag _ c.in-Ended.keys2 (ap (λ (z : Phase). tag_of the_type z) e))
+    c.in_default.not-Ended
 
 pub shape_of-out : goal.shape_of-out
 shape_of-out c = c.loop-left.invariant.long
