@@ -35,8 +35,8 @@ returns-in-As c =
     let d = c.args.out.now in
     let e = sym c.check.ensures.value ∙ c.in-As.is in
     let h = c.write_checked.ensures in
-    let w = h.0 ∙ writing_as given _ c.args.t b (length d) e in
+    let w = h.value ∙ writing_as given _ c.args.t b (length d) e in
     record {
       value = w;
-      out_after = h.1 ∙ ap (λ (x : List ℕ). over x d) (shown_as given _ c.args.t b (length d) _ e w);
+      out_after = h.out_after ∙ ap (λ (x : List ℕ). over x d) (shown_as given _ c.args.t b (length d) _ e w);
     }

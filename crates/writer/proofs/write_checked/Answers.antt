@@ -27,7 +27,7 @@ returns-then-out-f c =
     let long : length file ≡ file_length c.args.c c.args.figures (length c.args.salt.now) (length c.args.custom.now) (length c.args.payload.now) = length-file c.args.minor c.args.c c.args.seed.now c.args.nonce.now c.args.figures c.args.salt.now c.args.custom.now c.requires c.args.t c.args.payload.now in
     let b = length c.args.payload.now in
     let n = length c.args.out.now in
-    let e : at_len.file-len.result ≡ length file = c.file_len-f.ensures ∙ sym long in
+    let e : c.file_len-f.result ≡ length file = c.file_len-f.ensures ∙ sym long in
     record {
       value = settled_room b c.file_len-f.result n (sym c.payload_fits.ensures ∙ c.if-payload_fits.true)
           (sym c.file_fits.ensures ∙ c.if-file_fits.true) c.if-out-f.true
@@ -54,7 +54,7 @@ returns-then-file_fits c =
     let long : length file ≡ file_length c.args.c c.args.figures (length c.args.salt.now) (length c.args.custom.now) (length c.args.payload.now) = length-file c.args.minor c.args.c c.args.seed.now c.args.nonce.now c.args.figures c.args.salt.now c.args.custom.now c.requires c.args.t c.args.payload.now in
     let b = length c.args.payload.now in
     let n = length c.args.out.now in
-    let e : at_len.file-len.result ≡ length file = c.file_len-f.ensures ∙ sym long in
+    let e : c.file_len-f.result ≡ length file = c.file_len-f.ensures ∙ sym long in
     record {
       value = settled-wrote b c.file_len-f.result n (sym c.payload_fits.ensures ∙ c.if-payload_fits.true)
           (sym c.file_fits.ensures ∙ c.if-file_fits.true) c.if-out-f.false
@@ -69,7 +69,7 @@ returns-then-payload_fits c =
     let long : length file ≡ file_length c.args.c c.args.figures (length c.args.salt.now) (length c.args.custom.now) (length c.args.payload.now) = length-file c.args.minor c.args.c c.args.seed.now c.args.nonce.now c.args.figures c.args.salt.now c.args.custom.now c.requires c.args.t c.args.payload.now in
     let b = length c.args.payload.now in
     let n = length c.args.out.now in
-    let e : at_len.file-len.result ≡ length file = c.file_len-f.ensures ∙ sym long in
+    let e : c.file_len-f.result ≡ length file = c.file_len-f.ensures ∙ sym long in
     record {
       value = settled-file b c.file_len-f.result n (sym c.payload_fits.ensures ∙ c.if-payload_fits.true)
           (sym c.file_fits.ensures ∙ c.if-file_fits.false)

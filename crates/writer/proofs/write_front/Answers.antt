@@ -9,13 +9,10 @@ use Rattle.writer.proofs.Laws.Files.{header_length_salt, header-summed}
 use borrow.Author.Rules.{rules}
 use Rattle.writer.proofs.write_front.Goals as goal
 
--- the header's length is told with a salt that is looked at whole
-abbrev long : (c : tie.Start) → ℕ → ℕ
-long c n = header_length c.args.c c.args.figures n (length c.args.custom.now)
-
 pub write_sums-requires : goal.write_sums-requires
 write_sums-requires c =
-    let salt_whole : long c (length (take 64 c.args.salt.now)) ≡ long c (length c.args.salt.now) = header_length_salt c.args.c c.args.figures c.args.salt.now (length c.args.custom.now) c.requires.sized.salt_le in
+    let salt_whole =
+    header_length_salt c.args.c c.args.figures c.args.salt.now (length c.args.custom.now) c.requires.sized.salt_le in
     let e = c.header_len-h.ensures ∙ salt_whole in
     let h = c.requires.custom_bound in
     let l = c.requires.custom_in_bounds in
@@ -26,13 +23,15 @@ write_sums-requires c =
 
 pub overflow_add-result : goal.overflow_add-result
 overflow_add-result c =
-    let salt_whole : long c (length (take 64 c.args.salt.now)) ≡ long c (length c.args.salt.now) = header_length_salt c.args.c c.args.figures c.args.salt.now (length c.args.custom.now) c.requires.sized.salt_le in
+    let salt_whole =
+    header_length_salt c.args.c c.args.figures c.args.salt.now (length c.args.custom.now) c.requires.sized.salt_le in
     let e = c.header_len-h.ensures ∙ salt_whole in
     omega (arith, e, c.requires.custom_bound, file_size)
 
 pub returns : goal.returns
 returns c =
-    let salt_whole : long c (length (take 64 c.args.salt.now)) ≡ long c (length c.args.salt.now) = header_length_salt c.args.c c.args.figures c.args.salt.now (length c.args.custom.now) c.requires.sized.salt_le in
+    let salt_whole =
+    header_length_salt c.args.c c.args.figures c.args.salt.now (length c.args.custom.now) c.requires.sized.salt_le in
     let a = c.args in
     let e = c.header_len-h.ensures ∙ salt_whole in
     record {

@@ -17,7 +17,7 @@ returns c =
     let k : 36 + n - 36 ≡ n = omega arith in
     let v : length a.prev ≡ 16 = search rules in
     record {
-      value = h.0 ∙ ap (λ (j : ℕ). prev_by a.keys.cipher a.keys a.prev (take j (drop 36 s))) k;
+      value = h.value ∙ ap (λ (j : ℕ). prev_by a.keys.cipher a.keys a.prev (take j (drop 36 s))) k;
       out_after = block_closed a.keys.cipher a.keys a.prev a.at a.keys.base s _ _ a.number n (36 + n - 36) k c.requires.n_in_bounds
-          c.requires.n_le_file_limit v h.1 c.seal.ensures;
+          c.requires.n_le_file_limit v h.out_after c.seal.ensures;
     }

@@ -13,8 +13,8 @@ returns-in-Aes256 c =
     let e = c.in-Aes256.is in
     let h = c.encrypt_cbc.ensures in
     record {
-      value = h.0 ∙ prev_aes a.keys.cipher a.keys a.prev s e;
-      out_after = h.1 ∙ ap (λ (t : List ℕ). over t s) (stretch_aes a.keys.cipher a.keys a.prev a.at s e);
+      value = h.value ∙ prev_aes a.keys.cipher a.keys a.prev s e;
+      out_after = h.out_after ∙ ap (λ (t : List ℕ). over t s) (stretch_aes a.keys.cipher a.keys a.prev a.at s e);
     }
 
 pub returns-in-ChaCha20 : goal.returns-in-ChaCha20

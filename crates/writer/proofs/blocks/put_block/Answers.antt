@@ -20,6 +20,6 @@ returns c =
     let l = length_stretch a.keys.cipher a.keys a.prev a.at b v c.requires.piece_len in
     let h = c.close_block.ensures in
     record {
-      value = h.0 ∙ ap (prev_by a.keys.cipher a.keys a.prev) (laid_data b d _ n refl c.requires.piece_in_bounds x);
-      out_after = block-laid b d _ n refl c.requires.piece_in_bounds x a.keys.cipher a.keys a.prev a.at a.keys.base _ a.number l h.1;
+      value = h.value ∙ ap (prev_by a.keys.cipher a.keys a.prev) (laid_data b d _ n refl c.requires.piece_in_bounds x);
+      out_after = block-laid b d _ n refl c.requires.piece_in_bounds x a.keys.cipher a.keys a.prev a.at a.keys.base _ a.number l h.out_after;
     }

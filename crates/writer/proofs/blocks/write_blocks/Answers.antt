@@ -9,6 +9,7 @@ use lib.Seq.{length-take-le}
 use Rattle.slices.specs.Over.{over}
 use Rattle.slices.proofs.Laws.Over.{length_over, over_nil, over_tail}
 use Rattle.slices.proofs.Laws.Parts.{part-tail}
+use Rattle.refusals.specs.Limits.{written_block}
 use Rattle.refusals.proofs.Laws.Limits.{block_positive, block-file}
 use Rattle.opening.specs.declared.Keys.{Keys}
 use Rattle.writer.specs.Written.{blocks_of}
@@ -37,6 +38,14 @@ loop-done-init c =
       omega arith,
     )
 
+-- a turn of the loop: a whole block of the payload is left
+turn : (k : Keys) (b v : List ℕ) (i p at n : ℕ) → n ≡ written_block → length v ≡ 16 → n ≤ length b - p
+    → p ≤ length b → at ≤ length (whole k b) → drop at (whole k b) ≡ last_blocks k v i p (drop p b)
+    → Turned k (whole k b) b v (take (p + n - p) (drop p b)) i p at n
+turn k b v i p at n en lv h l la e =
+    let m : p + n - p ≡ n = omega arith in
+    blocks-turn k (whole k b) b v _ i p at n (p + n - p) en lv (omega arith) la m refl e
+
 tail_room : (d : List ℕ) (at m : ℕ) → at + m ≤ length d → m ≤ length (take (length d - at) (drop at d))
 tail_room d at m h =
     let e : length (take (length d - at) (drop at d)) ≡ length d - at =
@@ -45,10 +54,10 @@ tail_room d at m h =
 
 pub put_block-next-requires : goal.put_block-next-requires
 put_block-next-requires c =
-    let turned : Turned c.args.keys (whole c.args.keys c.args.payload.now) c.args.payload.now c.loop-done.prev (take (c.loop-done.done + c.written_block-size.result - c.loop-done.done) (drop c.loop-done.done c.args.payload.now)) c.loop-done.number c.loop-done.done c.loop-done.at c.written_block-size.result = let l = c.loop-done in let i = l.invariant in let n = c.written_block-size.result in let a = c.args in let t : n ≤ length a.payload.now - l.done = c.loop-done-test.true in let h : l.done ≤ length a.payload.now = i.8 in let m : l.done + n - l.done ≡ n = omega arith in blocks-turn a.keys (whole a.keys a.payload.now) a.payload.now l.prev _ l.number l.done l.at n (l.done + n - l.done) i.0 i.1 (omega (arith, t, h)) i.5 m refl i.3 in
-    let t = turned in
     let l = c.loop-done in
     let i = l.invariant in
+    let t = turn c.args.keys c.args.payload.now l.prev l.number l.done l.at c.written_block-size.result i.0 i.1
+    c.loop-done-test.true i.8 i.5 i.3 in
     let n = c.written_block-size.result in
     let f = t.fits in
     let e = t.piece in
@@ -62,14 +71,20 @@ put_block-next-requires c =
 
 pub overflow_add-at-in-loop-done : goal.overflow_add-at-in-loop-done
 overflow_add-at-in-loop-done c =
-    let turned : Turned c.args.keys (whole c.args.keys c.args.payload.now) c.args.payload.now c.loop-done.prev (take (c.loop-done.done + c.written_block-size.result - c.loop-done.done) (drop c.loop-done.done c.args.payload.now)) c.loop-done.number c.loop-done.done c.loop-done.at c.written_block-size.result = let l = c.loop-done in let i = l.invariant in let n = c.written_block-size.result in let a = c.args in let t : n ≤ length a.payload.now - l.done = c.loop-done-test.true in let h : l.done ≤ length a.payload.now = i.8 in let m : l.done + n - l.done ≡ n = omega arith in blocks-turn a.keys (whole a.keys a.payload.now) a.payload.now l.prev _ l.number l.done l.at n (l.done + n - l.done) i.0 i.1 (omega (arith, t, h)) i.5 m refl i.3 in
-    let f = turned.fits in
+    let l = c.loop-done in
+    let i = l.invariant in
+    let t = turn c.args.keys c.args.payload.now l.prev l.number l.done l.at c.written_block-size.result i.0 i.1
+    c.loop-done-test.true i.8 i.5 i.3 in
+    let f = t.fits in
     search rules
 
 pub overflow_add-number : goal.overflow_add-number
 overflow_add-number c =
-    let turned : Turned c.args.keys (whole c.args.keys c.args.payload.now) c.args.payload.now c.loop-done.prev (take (c.loop-done.done + c.written_block-size.result - c.loop-done.done) (drop c.loop-done.done c.args.payload.now)) c.loop-done.number c.loop-done.done c.loop-done.at c.written_block-size.result = let l = c.loop-done in let i = l.invariant in let n = c.written_block-size.result in let a = c.args in let t : n ≤ length a.payload.now - l.done = c.loop-done-test.true in let h : l.done ≤ length a.payload.now = i.8 in let m : l.done + n - l.done ≡ n = omega arith in blocks-turn a.keys (whole a.keys a.payload.now) a.payload.now l.prev _ l.number l.done l.at n (l.done + n - l.done) i.0 i.1 (omega (arith, t, h)) i.5 m refl i.3 in
-    let f = turned.fits in
+    let l = c.loop-done in
+    let i = l.invariant in
+    let t = turn c.args.keys c.args.payload.now l.prev l.number l.done l.at c.written_block-size.result i.0 i.1
+    c.loop-done-test.true i.8 i.5 i.3 in
+    let f = t.fits in
     search rules
 
 pub loop-done-smaller : goal.loop-done-smaller
@@ -79,10 +94,10 @@ loop-done-smaller c =
 
 pub loop-done-preserved : goal.loop-done-preserved
 loop-done-preserved c =
-    let turned : Turned c.args.keys (whole c.args.keys c.args.payload.now) c.args.payload.now c.loop-done.prev (take (c.loop-done.done + c.written_block-size.result - c.loop-done.done) (drop c.loop-done.done c.args.payload.now)) c.loop-done.number c.loop-done.done c.loop-done.at c.written_block-size.result = let l = c.loop-done in let i = l.invariant in let n = c.written_block-size.result in let a = c.args in let t : n ≤ length a.payload.now - l.done = c.loop-done-test.true in let h : l.done ≤ length a.payload.now = i.8 in let m : l.done + n - l.done ≡ n = omega arith in blocks-turn a.keys (whole a.keys a.payload.now) a.payload.now l.prev _ l.number l.done l.at n (l.done + n - l.done) i.0 i.1 (omega (arith, t, h)) i.5 m refl i.3 in
-    let t = turned in
     let l = c.loop-done in
     let i = l.invariant in
+    let t = turn c.args.keys c.args.payload.now l.prev l.number l.done l.at c.written_block-size.result i.0 i.1
+    c.loop-done-test.true i.8 i.5 i.3 in
     let n = c.written_block-size.result in
     let a = c.args in
     let w = whole a.keys a.payload.now in
@@ -92,14 +107,14 @@ loop-done-preserved c =
     let la : length (take l.at w) ≡ l.at = length-take-le l.at w i.5 in
     let ad : l.at ≤ length d = omega (arith, i.5, i.6) in
     let k : length l.out - l.at ≡ length d - l.at = ap (λ (m : ℕ). m - l.at) i.2 in
-    let o = over_tail (take l.at w) _ d l.out _ l.at (length l.out - l.at) i.4 la ad k h.1
+    let o = over_tail (take l.at w) _ d l.out _ l.at (length l.out - l.at) i.4 la ad k h.out_after
     ∙ ap (λ (x : List ℕ). over x d) (sym t.written) in
     let lt : length (take (l.at + (36 + n)) w) ≡ l.at + (36 + n) = length-take-le (l.at + (36 + n)) w f in
     let lw : length (take (l.at + (36 + n)) w) ≤ length d = omega (arith, lt, f, i.6) in (
       i.0,
-      ap length h.0 ∙ length-prev_by a.keys.cipher a.keys l.prev _ i.1,
+      ap length h.value ∙ length-prev_by a.keys.cipher a.keys l.prev _ i.1,
       ap length o ∙ length_over (take (l.at + (36 + n)) w) d lw,
-      t.left ∙ ap (λ (v : List ℕ). last_blocks a.keys v (l.number + 1) (l.done + n) (drop (l.done + n) a.payload.now)) (sym h.0),
+      t.left ∙ ap (λ (v : List ℕ). last_blocks a.keys v (l.number + 1) (l.done + n) (drop (l.done + n) a.payload.now)) (sym h.value),
       o,
       f,
       i.6,
