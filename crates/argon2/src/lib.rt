@@ -8,6 +8,7 @@
 // nothing; a run leaves the words that it used as zeros and those behind them as they were. The lanes are computed one
 // after the other. Argon2d, and Argon2id behind its first half pass, look at places that depend on the password.
 #![tactic(auto)]
+
 ghost use Rattle.std.specs.Prelude.{◌≡◌, ◌*◌, ◌/◌, ◌≤◌, length, replicate};
 ghost use Rattle.argon2_fill.specs.Rfc9106 as filling;
 ghost use Rattle.argon2_fill.specs.State.{figures, Fits};

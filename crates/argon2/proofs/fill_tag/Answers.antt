@@ -12,10 +12,10 @@ returns c =
     let a = c.args in
     let h = c.requires in
     let l : length c.last_column.result ≡ 128 = search rules in
-    let n : length c.fill.new.0 ≡ length a.memory.now = search rules in
+    let n : length c.fill.new.memory ≡ length a.memory.now = search rules in
     record {
       memory_after = c.clear.ensures ∙ ap (λ (k : ℕ). replicate k 0) n;
-      out_after = tag_is (figures a.f) a.h h.0 a.memory.now _ _ _ _ a.out.now _ h.1.0 h.1.1
+      out_after = tag_is (figures a.f) a.h h.fits a.memory.now _ _ _ _ a.out.now _ h.le_passes h.memory_len
           c.put_first_blocks.ensures c.fill.ensures c.last_column.ensures l
           c.bytes_of-c.ensures c.fill-2.ensures.out_after;
     }

@@ -16,29 +16,6 @@ nonzero_div-segment c =
     let h = (argon2_fits_bounds (length a.salt.now) a.passes a.bytes a.lanes t).lanes_least in
     omega arith
 
-pub overflow_mul-blocks : goal.overflow_mul-blocks
-overflow_mul-blocks c =
-    let a = c.args in
-    let t = sym c.argon2_figures_fit.ensures ∙ c.if-argon2_figures_fit.true in
-    let h = run.lane_le (length a.salt.now) a.passes a.bytes a.lanes _ t c.kib_of-m.ensures in
-    record { fits = omega arith }
-
-pub overflow_mul-blocks-then-fits : goal.overflow_mul-blocks-then-fits
-overflow_mul-blocks-then-fits c =
-    let a = c.args in
-    let t = sym c.argon2_figures_fit.ensures ∙ c.if-argon2_figures_fit.true in
-    let h = run.kib_le (length a.salt.now) a.passes a.bytes a.lanes _ t c.kib_of-m.ensures in
-    let k = run.blocks-le a.lanes c.kib_of-m.result in
-    record { fits = omega arith }
-
-pub overflow_mul-words : goal.overflow_mul-words
-overflow_mul-words c =
-    let a = c.args in
-    let t = sym c.argon2_figures_fit.ensures ∙ c.if-argon2_figures_fit.true in
-    let h = run.kib_le (length a.salt.now) a.passes a.bytes a.lanes _ t c.kib_of-m.ensures in
-    let k = run.blocks-le a.lanes c.kib_of-m.result in
-    record { fits = omega arith }
-
 pub returns-then-memory-words : goal.returns-then-memory-words
 unfolding left shown
 returns-then-memory-words c =
@@ -46,7 +23,7 @@ returns-then-memory-words c =
     let i = inputs a.kind a.password.now a.salt.now a.secret.now a.associated.now a.passes
     a.bytes a.lanes (length a.out.now) in
     let t = sym c.argon2_figures_fit.ensures ∙ c.if-argon2_figures_fit.true in
-    let b = sym c.fits2.ensures ∙ c.if-fits.true in
+    let b = sym c.fits.ensures ∙ c.if-fits.true in
     let u = run.used_is i c.kib_of-m.result c.kib_of-m.ensures in
     record {
       value = run.outcome_short i a.bytes (length a.memory.now) t b _ u c.if-memory-words.true;
@@ -70,10 +47,7 @@ overflow_cast-passes c =
 
 pub h0-h-requires : goal.h0-h-requires
 h0-h-requires c =
-    leb-true _ _ (sym c.fits2.ensures ∙ c.if-fits.true)
-
-pub slice_bounds-fill_tag-end-then-fits : goal.slice_bounds-fill_tag-end-then-fits
-slice_bounds-fill_tag-end-then-fits c = sym (length-take-le _ _ c.if-memory-words.false)
+    leb-true _ _ (sym c.fits.ensures ∙ c.if-fits.true)
 
 pub fill_tag-requires : goal.fill_tag-requires
 fill_tag-requires c =
@@ -92,16 +66,16 @@ returns-then-fits c =
     let i = inputs a.kind a.password.now a.salt.now a.secret.now a.associated.now a.passes
     a.bytes a.lanes (length a.out.now) in
     let t = sym c.argon2_figures_fit.ensures ∙ c.if-argon2_figures_fit.true in
-    let b = sym c.fits2.ensures ∙ c.if-fits.true in
+    let b = sym c.fits.ensures ∙ c.if-fits.true in
     let m = c.kib_of-m.result in
     let e = c.kib_of-m.ensures in
     let u = run.used_is i m e in
-    let y = c.number_of_lem.result in
+    let y = c.number_of-y.result in
     record {
       value = run.outcome-accepted i a.bytes (length a.memory.now) t b _ u c.if-memory-words.false;
       memory_after = run.left_is i a.memory.now _ _ u c.if-memory-words.false c.fill_tag.ensures.memory_after;
-      out_after = run.shown_is i y m _ _ a.out.now c.number_of_lem.ensures e c.h0-h.ensures
-            c.fill_tag.ensures.out_after;
+      out_after = run.shown_is i y m _ _ a.out.now c.number_of-y.ensures e c.h0-h.ensures
+          c.fill_tag.ensures.out_after;
     }
 
 pub returns-then-argon2_figures_fit : goal.returns-then-argon2_figures_fit
@@ -112,7 +86,7 @@ returns-then-argon2_figures_fit c =
     a.bytes a.lanes (length a.out.now) in
     let t = sym c.argon2_figures_fit.ensures ∙ c.if-argon2_figures_fit.true in
     record {
-      value = run.outcome_long i a.bytes (length a.memory.now) t (sym c.fits2.ensures ∙ c.if-fits.false);
+      value = run.outcome_long i a.bytes (length a.memory.now) t (sym c.fits.ensures ∙ c.if-fits.false);
       memory_after = refl;
       out_after = refl;
     }

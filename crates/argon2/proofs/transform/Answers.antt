@@ -8,9 +8,9 @@ use Rattle.argon2.proofs.transform.Goals as goal
 pub returns : goal.returns
 returns c =
     let a = c.args in
-    let i = vault_inputs a.kind a.t2 a.salt.now a.passes a.bytes a.lanes in
+    let i = vault_inputs a.kind a.composite a.salt.now a.passes a.bytes a.lanes in
     let e = c.hash-outcome.ensures in
     record {
-      value = transformed_is i c.hash-outcome.result _ _ e.0 e.1.1;
-      memory_after = e.1.0 ∙ ap (λ (o : Outcome). left o i a.memory.now) e.0;
+      value = transformed_is i c.hash-outcome.result _ _ e.value e.out_after;
+      memory_after = e.memory_after ∙ ap (λ (o : Outcome). left o i a.memory.now) e.value;
     }

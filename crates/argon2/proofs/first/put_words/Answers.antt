@@ -9,7 +9,7 @@ use Rattle.argon2.proofs.first.put_words.Goals as goal
 pub loop-i-init : goal.loop-i-init
 loop-i-init c =
     let a = c.args in
-    (search rules, search rules, words_none a.t2 a.out.now)
+    (search rules, search rules, words_none a.bytes a.out.now)
 
 pub loop-i-preserved : goal.loop-i-preserved
 loop-i-preserved c =
@@ -19,11 +19,11 @@ loop-i-preserved c =
     let t : l.i < length a.out.now = omega arith in (
       search rules,
       simp length-set l.invariant.1,
-      words_more a.t2 a.out.now l.out l.i c.u64_at.result l.invariant.2 t c.u64_at.ensures,
+      words_more a.bytes a.out.now l.out l.i c.u64_at.result l.invariant.2 t c.u64_at.ensures,
     )
 
 pub returns : goal.returns
 returns c =
     let l = c.loop-i in
     let a = c.args in
-    words_all a.t2 a.out.now l.out l.i 128 (omega arith) l.invariant.2
+    words_all a.bytes a.out.now l.out l.i 128 (omega arith) l.invariant.2

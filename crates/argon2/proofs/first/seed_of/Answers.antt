@@ -7,7 +7,7 @@ use Rattle.argon2.proofs.first.seed_of.Goals as goal
 
 pub returns : goal.returns
 returns c =
-    let long : length c.args.t1 ≡ 64 = search rules in
+    let long : length c.args.h ≡ 64 = search rules in
     let a = c.args in
-    seed_is a.t1 _ a.i a.j long (search rules) c.bytes32.ensures c.bytes32-2.ensures
+    seed_is a.h _ a.i a.j long (search rules) c.bytes32.ensures c.bytes32-2.ensures
     c.put.ensures c.put-2.ensures c.put-3.ensures

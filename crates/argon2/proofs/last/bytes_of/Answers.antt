@@ -11,12 +11,12 @@ use borrow.Author.Rules.{rules}
 use Rattle.argon2.proofs.last.bytes_of.Goals as goal
 
 pub loop-i-init : goal.loop-i-init
-loop-i-init c = (search rules, (search rules, serialize_none c.args.t1 (zeros 1024)))
+loop-i-init c = (search rules, (search rules, serialize_none c.args.c (zeros 1024)))
 
 pub loop-i-preserved : goal.loop-i-preserved
 loop-i-preserved c =
     let l = c.loop-i in
-    let w = c.args.t1 in
+    let w = c.args.c in
     let b = c.bytes64.result in
     let long : length w ≡ 128 = search rules in
     let eight : length b ≡ 8 = search rules in
@@ -31,6 +31,6 @@ loop-i-preserved c =
 pub returns : goal.returns
 returns c =
     let l = c.loop-i in
-    let w = c.args.t1 in
+    let w = c.args.c in
     let long : length w ≡ 128 = search rules in
     serialize_all w l.out l.i 1024 (omega arith) (omega arith) (omega arith) l.invariant.1.1
