@@ -53,7 +53,6 @@ use Rattle.kdf_dictionary.specs.declared.Reading.TheVariants as kdf
 use Rattle.outer_header.specs.declared.walk.Fields.{Fields}
 use Rattle.outer_header.specs.declared.walk.Walked.{Walked}
 use Rattle.outer_header.specs.declared.walk.Walked.TheVariants as walked
-use Rattle.outer_header.specs.declared.Header.{Header}
 use Rattle.outer_header.specs.declared.Reading.{Reading}
 use Rattle.outer_header.specs.declared.Reading.TheVariants as read
 

@@ -6,6 +6,7 @@
 // the file, and nothing is copied. Refusals: 1 to 11, 20 and 22, in the order of documents 01 and 02; fields may come
 // in any order.
 #![tactic(auto)]
+
 ghost use Rattle.std.specs.Prelude.{◌≡◌};
 ghost use Rattle.outer_header.specs.Kdbx4Header as kdbx4;
 ghost use Rattle.outer_header.specs.Answers as answers;

@@ -1,6 +1,5 @@
 -- `outer_header::custom_of` meets its contract. Assumes nothing.
 use Prim.Native.Nat.{◌^◌}
-use lib.ListN.{length}
 use borrow.Author.Tests.{eq-eqb, ne_eqb}
 use borrow.Author.Rules.{rules}
 use Rattle.dictionary.proofs.Laws.Within.{broken_lt, repeated_lt}

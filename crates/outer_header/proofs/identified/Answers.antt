@@ -1,4 +1,5 @@
 -- `outer_header::identified` meets its contract. Assumes nothing.
+use borrow.Author.Tests.{eq-eqb, ne_eqb}
 use Rattle.outer_header.specs.Kdbx4Header.{identified}
 use Rattle.outer_header.proofs.identified.Goals as goal
 
@@ -13,8 +14,8 @@ returns-then-sized c =
       c.in-As.is,
       ← c.u32_at-plain.ensures,
       ← c.nonce_len.ensures,
-      c.if-plain.true,
-      c.if-sized.true,
+      eq-eqb _ _ c.if-plain.true,
+      eq-eqb _ _ c.if-sized.true,
     ) c.figures.ensures
 
 pub returns-then-plain : goal.returns-then-plain
@@ -24,8 +25,8 @@ returns-then-plain c =
       c.in-As.is,
       ← c.u32_at-plain.ensures,
       ← c.nonce_len.ensures,
-      c.if-plain.true,
-      c.if-sized.false,
+      eq-eqb _ _ c.if-plain.true,
+      ne_eqb _ _ c.if-sized.false,
       c.begin-then-plain.ensures,
     )
 
@@ -36,6 +37,6 @@ returns-in-As c =
       c.in-As.is,
       ← c.u32_at-plain.ensures,
       ← c.nonce_len.ensures,
-      c.if-plain.false,
+      ne_eqb _ _ c.if-plain.false,
       c.begin-in-As.ensures,
     )
