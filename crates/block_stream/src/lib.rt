@@ -5,6 +5,7 @@
 // `judge` makes a block's checks; `seal` writes the tag and the size before data that stands in a lent slice. The
 // contracts cite specs/Blocks, and specs/Answers for what an answer says. Refusals: 1, 2, 5, 2 and 14, in this order.
 #![tactic(auto)]
+
 ghost use Rattle.std.specs.Prelude.{◌≡◌, [], ◌∷◌, ◌+◌, ◌≤◌, length};
 ghost use Rattle.words.specs.Endian.{le};
 ghost use Rattle.words.specs.Size.{int32};
