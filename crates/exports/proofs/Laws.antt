@@ -27,33 +27,36 @@ use Rattle.calls.specs.Calls.{result_or, kept_or, kept_unless}
 use Rattle.exports.specs.Lent.{values_or, count_or}
 
 pub answer-accepted : {o p : Outcome} {x y : List ℕ} (had : List ℕ) → o ≡ p → x ≡ y → o ≡ Accepted
-    → (0 ≡ of_outcome p) × (x ≡ result_or p y had)
-answer-accepted had e f a = rw (sym e ∙ a) (refl, f)
+    → record { value : 0 ≡ of_outcome p; out_after : x ≡ result_or p y had }
+answer-accepted had e f a = rw (sym e ∙ a) (record { value = refl; out_after = f })
 
 pub answer-refused : {o p : Outcome} {had : List ℕ} {n : ℕ} {r : Refusal} (y : List ℕ) → o ≡ p → n ≡ of_outcome o → o ≡ Refused r
-    → (n ≡ of_outcome p) × (had ≡ result_or p y had)
-answer-refused y e f a = (f ∙ ap of_outcome e, rw (sym e ∙ a))
+    → record { value : n ≡ of_outcome p; out_after : had ≡ result_or p y had }
+answer-refused y e f a = record { value = f ∙ ap of_outcome e; out_after = rw (sym e ∙ a) }
 
 pub answer-wrote : {w v : Written} {n : ℕ} (had : ℕ) → w ≡ v → w ≡ written.Wrote n
-    → (0 ≡ of_written v) × (n ≡ count_or v had)
-answer-wrote had e a = rw (sym e ∙ a) (refl, refl)
+    → record { value : 0 ≡ of_written v; count_after : n ≡ count_or v had }
+answer-wrote had e a = rw (sym e ∙ a) (record { value = refl; count_after = refl })
 
 pub answer_not_written : {w v : Written} {m : ℕ} {r : Refusal} (had : ℕ) → w ≡ v → m ≡ of_refusal r
-    → w ≡ written.Refused r → (m ≡ of_written v) × (had ≡ count_or v had)
-answer_not_written had e f a = rw (sym e ∙ a) (f, refl)
+    → w ≡ written.Refused r → record { value : m ≡ of_written v; count_after : had ≡ count_or v had }
+answer_not_written had e f a = rw (sym e ∙ a) (record { value = f; count_after = refl })
 
 -- what a reader's answer says, s, is what the definition's says, q
-pub answer-said : {n p : ℕ} {s q : Said} → s ≡ q → n ≡ s.number → p ≡ s.place → (n ≡ q.number) × (p ≡ q.place)
-answer-said e f g = rw (← e) (f, g)
+pub answer-said : {n p : ℕ} {s q : Said} → s ≡ q → n ≡ s.number → p ≡ s.place
+    → record { value : n ≡ q.number; place_after : p ≡ q.place }
+answer-said e f g = rw (← e) (record { value = f; place_after = g })
 
 pub answer_values : {n p : ℕ} {s q : Said} {v : List ℕ} (had : List ℕ) → s ≡ q → n ≡ s.number → p ≡ s.place
     → v ≡ s.values → n ≡ 0
-    → (n ≡ q.number) × ((p ≡ q.place) × (v ≡ values_or q had))
-answer_values {s} had e f g h z = rw (← e) (f, (g, rw (eq-eqb s.number 0 (sym f ∙ z)) h))
+    → record { value : n ≡ q.number; place_after : p ≡ q.place; figures_after : v ≡ values_or q had }
+answer_values {s} had e f g h z =
+    rw (← e) (record { value = f; place_after = g; figures_after = rw (eq-eqb s.number 0 (sym f ∙ z)) h })
 
 pub answer_no_values : {n p : ℕ} {s q : Said} (had : List ℕ) → s ≡ q → n ≡ s.number → p ≡ s.place → (n ≡ 0 → ⊥)
-    → (n ≡ q.number) × ((p ≡ q.place) × (had ≡ values_or q had))
-answer_no_values {s} had e f g d = rw (← e) (f, (g, rw (ne_eqb s.number 0 (λ z. d (f ∙ z)))))
+    → record { value : n ≡ q.number; place_after : p ≡ q.place; figures_after : had ≡ values_or q had }
+answer_no_values {s} had e f g d =
+    rw (← e) (record { value = f; place_after = g; figures_after = rw (ne_eqb s.number 0 (λ z. d (f ∙ z))) })
 
 pub outcome-transformed : (o : Outcome) (i : Inputs) → (transformed o i).outcome ≡ o
 unfolding transformed

@@ -15,6 +15,7 @@
 // states reads and writes. The contracts cite the operations' own definitions; specs/Lent says what is left in lent
 // memory, and crate calls' specs/Calls what is left of a lent state; what lists of calls come to is proved there.
 #![tactic(auto)]
+
 mod derivation;
 mod dictionaries;
 mod encryption;

@@ -6,4 +6,4 @@ use Rattle.exports.proofs.derivation.join.Goals as goal
 pub returns : goal.returns
 returns c =
     let a = c.args in
-    join_is a.t1 a.t2 _ _ (search rules) (search rules) c.put.ensures c.put-2.ensures
+    join_is a.left a.right _ _ (search rules) (search rules) c.put.ensures c.put-2.ensures

@@ -17,4 +17,4 @@ pub returns : goal.returns
 unfolding left
 returns c =
     let kdf = c.args.kdf in
-    rw (ne_eqb kdf 1 c.if-kdf-eq1.false, ne_eqb kdf 2 c.if-kdf-eq2.false) (c.number.ensures, (refl, refl))
+    rw (ne_eqb kdf 1 c.if-kdf-eq1.false, ne_eqb kdf 2 c.if-kdf-eq2.false) (record { value = c.number.ensures; words_after = refl; out_after = refl })

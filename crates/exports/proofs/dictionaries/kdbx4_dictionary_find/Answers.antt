@@ -4,9 +4,12 @@ use Rattle.exports.proofs.dictionaries.kdbx4_dictionary_find.Goals as goal
 
 pub returns-then-number-ne0 : goal.returns-then-number-ne0
 returns-then-number-ne0 c =
-    answer_no_values _ c.find-answer.ensures.result_value c.number-number.ensures c.place.ensures c.if-number-ne0.true
+    let x = answer_no_values c.args.found.now c.find-answer.ensures.result_value c.number-number.ensures c.place.ensures
+    c.if-number-ne0.true in
+    record { value = x.value; place_after = x.place_after; found_after = x.figures_after }
 
 pub returns : goal.returns
 returns c =
-    answer_values _ c.find-answer.ensures.result_value c.number-number.ensures c.place.ensures c.values.ensures
-    c.if-number-ne0.false
+    let x = answer_values c.args.found.now c.find-answer.ensures.result_value c.number-number.ensures c.place.ensures
+    c.values.ensures c.if-number-ne0.false in
+    record { value = x.value; place_after = x.place_after; found_after = x.figures_after }

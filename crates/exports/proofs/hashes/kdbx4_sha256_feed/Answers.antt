@@ -3,7 +3,7 @@ use mathlib.Core.Path.{ap, ◌∙◌}
 use Rattle.sha256.specs.declared.Sha256.{Sha256}
 use Rattle.sha256.specs.declared.Fed.{Fed}
 use Rattle.sha256.specs.State.{fed}
-use Rattle.states.specs.Sha256State.{packed}
+use Rattle.states.specs.Sha256State.{packed, unpacked}
 use Rattle.exports.proofs.Laws.{answer-accepted, answer-refused}
 use Rattle.exports.proofs.hashes.kdbx4_sha256_feed.Goals as goal
 
@@ -11,11 +11,14 @@ pub returns-in-Accepted : goal.returns-in-Accepted
 returns-in-Accepted c =
     let part = c.args.part.now in
     let e = c.feed-fed.ensures ∙ ap (λ (s : Sha256). fed s part) c.unpack.ensures in
-    answer-accepted _ (ap (λ (x : Fed). x.outcome) e) (c.pack.ensures ∙ ap (λ (x : Fed). packed x.next) e)
-    c.in-Accepted.is
+    let x = answer-accepted c.args.state.now (ap (λ (x : Fed). x.outcome) e)
+    (c.pack.ensures ∙ ap (λ (x : Fed). packed x.next) e) c.in-Accepted.is in
+    record { value = x.value; state_after = x.out_after }
 
 pub returns : goal.returns
 returns c =
     let part = c.args.part.now in
     let e = c.feed-fed.ensures ∙ ap (λ (s : Sha256). fed s part) c.unpack.ensures in
-    answer-refused _ (ap (λ (x : Fed). x.outcome) e) c.number.ensures c.in_default.is
+    let y = packed (fed (unpacked c.args.state.now) part).next in
+    let x = answer-refused {had = c.args.state.now} y (ap (λ (x : Fed). x.outcome) e) c.number.ensures c.in_default.is in
+    record { value = x.value; state_after = x.out_after }

@@ -16,17 +16,17 @@ returns-in-Wrote c =
     let d = a.out.now in
     let u = c.unpack-s.ensures in
     let e = c.apply-applied.ensures in
-    let x = e.0 ∙ ap (λ (s : InnerStream). applied s b (length d)) u in
-    let o = e.1 ∙ ap (λ (s : InnerStream). over (handed s b (length d)) d) u in
+    let x = e.value ∙ ap (λ (s : InnerStream). applied s b (length d)) u in
+    let o = e.out_after ∙ ap (λ (s : InnerStream). over (handed s b (length d)) d) u in
     let w = ap (λ (y : Applied). y.written) x in
     let n = ap (λ (y : Applied). packed y.next) x in
     let g = c.in-Wrote.is in
     let r = answer-wrote a.count.now w g in
     record {
-      value = r.0;
+      value = r.value;
       state_after = kept_wrote _ w g (c.pack.ensures ∙ n);
       out_after = o;
-      count_after = r.1;
+      count_after = r.count_after;
     }
 
 pub returns-in-Refused : goal.returns-in-Refused
@@ -36,14 +36,14 @@ returns-in-Refused c =
     let d = a.out.now in
     let u = c.unpack-s.ensures in
     let e = c.apply-applied.ensures in
-    let x = e.0 ∙ ap (λ (s : InnerStream). applied s b (length d)) u in
-    let o = e.1 ∙ ap (λ (s : InnerStream). over (handed s b (length d)) d) u in
+    let x = e.value ∙ ap (λ (s : InnerStream). applied s b (length d)) u in
+    let o = e.out_after ∙ ap (λ (s : InnerStream). over (handed s b (length d)) d) u in
     let w = ap (λ (y : Applied). y.written) x in
     let g = c.in-Refused.is in
     let r = answer_not_written a.count.now w c.number.ensures g in
     record {
-      value = r.0;
+      value = r.value;
       state_after = kept_refused _ w g;
       out_after = o;
-      count_after = r.1;
+      count_after = r.count_after;
     }

@@ -6,24 +6,24 @@ use Rattle.exports.proofs.vaults.kdbx4_open.Goals as goal
 
 pub returns-in-Wrote : goal.returns-in-Wrote
 returns-in-Wrote c =
-    let e = at_open.«open».ensures in
+    let e = c.open-answer.ensures in
     let a = c.args in
-    let x = answer-wrote a.count.now e.0 c.in-Wrote.is in
+    let x = answer-wrote a.count.now e.value c.in-Wrote.is in
     record {
-      value = x.0;
-      out_after = e.1;
-      count_after = x.1;
-      place_after = c.place.ensures ∙ ap place_of_written e.0;
+      value = x.value;
+      out_after = e.out_after;
+      count_after = x.count_after;
+      place_after = c.place.ensures ∙ ap place_of_written e.value;
     }
 
 pub returns-in-Refused : goal.returns-in-Refused
 returns-in-Refused c =
-    let e = at_open.«open».ensures in
+    let e = c.open-answer.ensures in
     let a = c.args in
-    let x = answer_not_written a.count.now e.0 c.number.ensures c.in-Refused.is in
+    let x = answer_not_written a.count.now e.value c.number.ensures c.in-Refused.is in
     record {
-      value = x.0;
-      out_after = e.1;
-      count_after = x.1;
-      place_after = c.place.ensures ∙ ap place_of_written e.0;
+      value = x.value;
+      out_after = e.out_after;
+      count_after = x.count_after;
+      place_after = c.place.ensures ∙ ap place_of_written e.value;
     }

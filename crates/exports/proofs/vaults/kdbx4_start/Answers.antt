@@ -8,7 +8,7 @@ pub returns : goal.returns
 returns c =
     let e = c.start-s.ensures in
     record {
-      value = c.number.ensures ∙ ap of_outcome e.0;
-      place_after = c.place.ensures ∙ ap place_of_outcome e.0;
-      state_after = c.pack.ensures ∙ ap packed e.1;
+      value = c.number.ensures ∙ ap of_outcome e.outcome_value;
+      place_after = c.place.ensures ∙ ap place_of_outcome e.outcome_value;
+      state_after = c.pack.ensures ∙ ap packed e.next_value;
     }

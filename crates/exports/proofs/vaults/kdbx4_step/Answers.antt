@@ -15,15 +15,15 @@ returns-in-Wrote c =
     let d = a.out.now in
     let u = c.unpack-o.ensures in
     let e = c.step-s.ensures in
-    let w = e.0 ∙ ap (λ (o : Opener). (step_of f o (length d)).answer.written) u in
-    let b = e.1.1 ∙ ap (λ (o : Opener). over (step_of f o (length d)).answer.bytes d) u in
-    let s = e.1.0 ∙ ap (λ (o : Opener). (step_of f o (length d)).next) u in
+    let w = e.answer_value ∙ ap (λ (o : Opener). (step_of f o (length d)).answer.written) u in
+    let b = e.out_after ∙ ap (λ (o : Opener). over (step_of f o (length d)).answer.bytes d) u in
+    let s = e.next_value ∙ ap (λ (o : Opener). (step_of f o (length d)).next) u in
     let x = answer-wrote a.count.now w c.in-Wrote.is in
     record {
-      value = x.0;
-      state_after = kept_or-wrote _ x.0 (c.pack.ensures ∙ ap packed s);
+      value = x.value;
+      state_after = kept_or-wrote _ x.value (c.pack.ensures ∙ ap packed s);
       out_after = b;
-      count_after = x.1;
+      count_after = x.count_after;
     }
 
 pub returns-then-number-eq17 : goal.returns-then-number-eq17
@@ -33,14 +33,14 @@ returns-then-number-eq17 c =
     let d = a.out.now in
     let u = c.unpack-o.ensures in
     let e = c.step-s.ensures in
-    let w = e.0 ∙ ap (λ (o : Opener). (step_of f o (length d)).answer.written) u in
-    let b = e.1.1 ∙ ap (λ (o : Opener). over (step_of f o (length d)).answer.bytes d) u in
+    let w = e.answer_value ∙ ap (λ (o : Opener). (step_of f o (length d)).answer.written) u in
+    let b = e.out_after ∙ ap (λ (o : Opener). over (step_of f o (length d)).answer.bytes d) u in
     let x = answer_not_written a.count.now w c.number-number.ensures c.in-Refused.is in
     record {
-      value = x.0;
-      state_after = kept_or_17 _ x.0 c.if-number-eq17.true;
+      value = x.value;
+      state_after = kept_or_17 _ x.value c.if-number-eq17.true;
       out_after = b;
-      count_after = x.1;
+      count_after = x.count_after;
     }
 
 pub returns-then-number-eq19 : goal.returns-then-number-eq19
@@ -50,14 +50,14 @@ returns-then-number-eq19 c =
     let d = a.out.now in
     let u = c.unpack-o.ensures in
     let e = c.step-s.ensures in
-    let w = e.0 ∙ ap (λ (o : Opener). (step_of f o (length d)).answer.written) u in
-    let b = e.1.1 ∙ ap (λ (o : Opener). over (step_of f o (length d)).answer.bytes d) u in
+    let w = e.answer_value ∙ ap (λ (o : Opener). (step_of f o (length d)).answer.written) u in
+    let b = e.out_after ∙ ap (λ (o : Opener). over (step_of f o (length d)).answer.bytes d) u in
     let x = answer_not_written a.count.now w c.number-number.ensures c.in-Refused.is in
     record {
-      value = x.0;
-      state_after = kept_or_19 _ x.0 c.if-number-eq19.true;
+      value = x.value;
+      state_after = kept_or_19 _ x.value c.if-number-eq19.true;
       out_after = b;
-      count_after = x.1;
+      count_after = x.count_after;
     }
 
 pub returns-in-Refused : goal.returns-in-Refused
@@ -67,13 +67,13 @@ returns-in-Refused c =
     let d = a.out.now in
     let u = c.unpack-o.ensures in
     let e = c.step-s.ensures in
-    let w = e.0 ∙ ap (λ (o : Opener). (step_of f o (length d)).answer.written) u in
-    let b = e.1.1 ∙ ap (λ (o : Opener). over (step_of f o (length d)).answer.bytes d) u in
-    let s = e.1.0 ∙ ap (λ (o : Opener). (step_of f o (length d)).next) u in
+    let w = e.answer_value ∙ ap (λ (o : Opener). (step_of f o (length d)).answer.written) u in
+    let b = e.out_after ∙ ap (λ (o : Opener). over (step_of f o (length d)).answer.bytes d) u in
+    let s = e.next_value ∙ ap (λ (o : Opener). (step_of f o (length d)).next) u in
     let x = answer_not_written a.count.now w c.number-number.ensures c.in-Refused.is in
     record {
-      value = x.0;
-      state_after = kept_or_next _ x.0 c.if-number-eq17.false c.if-number-eq19.false (c.pack-in-Refused.ensures ∙ ap packed s);
+      value = x.value;
+      state_after = kept_or_next _ x.value c.if-number-eq17.false c.if-number-eq19.false (c.pack-in-Refused.ensures ∙ ap packed s);
       out_after = b;
-      count_after = x.1;
+      count_after = x.count_after;
     }

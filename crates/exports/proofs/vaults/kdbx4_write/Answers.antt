@@ -7,7 +7,7 @@ pub returns-in-Unlisted : goal.returns-in-Unlisted
 returns-in-Unlisted c =
     let a = c.args in
     rw (sym c.choose.ensures ∙ c.in-Unlisted.is)
-    (c.unlisted.ensures, (sym (over_nil a.out.now), refl))
+    (record { value = c.unlisted.ensures; out_after = sym (over_nil a.out.now); count_after = refl })
 
 pub returns-in-Figures : goal.returns-in-Figures
 returns-in-Figures c =
