@@ -5,6 +5,7 @@
 // password is a part of the key, an absent one is not. Refusals, in order: 1 for a password or key file over its limit;
 // 18 for no credential, a pre-hash that is not 32 bytes, or one that is given with another credential.
 #![tactic(auto)]
+
 ghost use Rattle.std.specs.Prelude.{◌≡◌, false, not, ◌++◌, ◌≤◌, length};
 ghost use Rattle.refusals.specs.Limits.{message_limit, password_limit, key_file_limit};
 ghost use Rattle.fips180.specs.Fips180 as fips180;

@@ -10,11 +10,11 @@ use Rattle.keys.proofs.Laws.{over_mono, composite_password, composite-key-file, 
 use Rattle.keys.proofs.composite.Goals as goal
 
 -- what the test of a length says of its credential
-within : {w : Bool} (o : Bool) → w ≡ not o → not w ≡ false → o ≡ false
-within o e t = not-true o (sym e ∙ not-false _ t)
+within : {w : Bool} (o : Bool) → w ≡ not o → w ≡ true → o ≡ false
+within o e t = not-true o (sym e ∙ t)
 
-beyond : {w : Bool} (o : Bool) → w ≡ not o → not w ≡ true → o ≡ true
-beyond o e t = not-false o (sym e ∙ not-true _ t)
+beyond : {w : Bool} (o : Bool) → w ≡ not o → w ≡ false → o ≡ true
+beyond o e t = not-false o (sym e ∙ t)
 
 pub returns-then-not-password_within : goal.returns-then-not-password_within
 returns-then-not-password_within c =

@@ -12,10 +12,10 @@ use Rattle.keys.proofs.hash_two.Goals as goal
 
 pub returns : goal.returns
 returns c =
-    let long_a : length c.args.t1 ≡ 32 = search rules in
-    let long_b : length c.args.t2 ≡ 32 = search rules in
-    let a = c.args.t1 in
-    let b = c.args.t2 in
+    let long_a : length c.args.a ≡ 32 = search rules in
+    let long_b : length c.args.b ≡ 32 = search rules in
+    let a = c.args.a in
+    let b = c.args.b in
     let la : length a ≡ 32 = long_a in
     let lb : length b ≡ 32 = long_b in
     let first = c.feed.ensures ∙ ap (λ (h : Sha256). fed h a) c.start.ensures in

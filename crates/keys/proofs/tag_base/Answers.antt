@@ -15,10 +15,10 @@ use Rattle.keys.proofs.tag_base.Goals as goal
 pub returns : goal.returns
 unfolding tag_base
 returns c =
-    let long_seed : length c.args.t1 ≡ 32 = search rules in
-    let long_t : length c.args.t2 ≡ 32 = search rules in
-    let s = c.args.t1 in
-    let t = c.args.t2 in
+    let long_seed : length c.args.seed ≡ 32 = search rules in
+    let long_t : length c.args.t ≡ 32 = search rules in
+    let s = c.args.seed in
+    let t = c.args.t in
     let ls : length s ≡ 32 = long_seed in
     let lt : length t ≡ 32 = long_t in
     let first = c.feed.ensures ∙ ap (λ (h : Sha512). fed h s) c.start.ensures in

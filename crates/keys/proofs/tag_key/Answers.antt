@@ -17,9 +17,9 @@ use Rattle.keys.proofs.tag_key.Goals as goal
 pub returns : goal.returns
 unfolding tag_key
 returns c =
-    let long_base : length c.args.t2 ≡ 64 = search rules in
+    let long_base : length c.args.base ≡ 64 = search rules in
     let n = c.bytes64-n.result in
-    let b = c.args.t2 in
+    let b = c.args.base in
     let ln : length n ≡ 8 = search rules in
     let lb : length b ≡ 64 = long_base in
     let first = c.feed.ensures ∙ ap (λ (h : Sha512). fed h n) c.start.ensures in
