@@ -6,6 +6,7 @@
 // after that many are fields of the state. Every value of the struct is a state: one that is refused, or that no call
 // could have made, stays as it is. Table look-ups of AES are not constant-time.
 #![tactic(auto)]
+
 ghost use Rattle.std.specs.Prelude.{◌≡◌, min};
 ghost use Rattle.aes_kdf.specs.AesKdf as kdf;
 ghost use Rattle.aes_kdf.specs.State as state;

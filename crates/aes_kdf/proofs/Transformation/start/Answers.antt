@@ -37,8 +37,8 @@ overflow_cast-result c =
 pub returns-then-rounds_fit : goal.returns-then-rounds_fit
 unfolding start after half_after repeated
 returns-then-rounds_fit c =
-    let long : length c.args.t1 ≡ 32 = search rules in
-    let k = c.args.t1 in
+    let long : length c.args.composite ≡ 32 = search rules in
+    let k = c.args.composite in
     let l : length k ≡ 32 = long in
     let t = sym c.rounds_fit.ensures ∙ c.if-rounds_fit.true in
     rw (t, left_is k l c.copy.ensures, right_is k l c.copy-then-rounds_fit.ensures)
