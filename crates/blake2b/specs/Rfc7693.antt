@@ -3,9 +3,9 @@
 --   2.1   parameters               words of 64 bits, 12 rounds, blocks of 128 bytes, rotations 32, 24, 16 and 63
 --   2.4   words and bytes          block_words, serialize
 --   2.6   initialization vector    FIPS 180-4's for SHA-512 (fips180's Fips180.Constants: iv512)
---   2.7   message schedule         Constants: SIGMA; scheduled
---   3.1   mixing function G        Four, half, mix, G
---   3.2   compression function F   working, round_on, rounds, joined, F
+--   2.7   message schedule         Constants: sigma_rows; scheduled
+--   3.1   mixing function G        Four, half, mix, mixing_g
+--   3.2   compression function F   working, round_on, rounds, joined, compression_f
 --   3.3   padding and computing    blocks_before, padded, initial, chain, last_block, full, blake2b
 -- Left out: BLAKE2s, and keys (kk is 0 throughout). Tree hashing is not in the RFC.
 -- Differs: nn is any number, where the RFC has 1 to 64, and a message has any length, where it stops at 2^128 bytes

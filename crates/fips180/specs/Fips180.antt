@@ -3,7 +3,7 @@
 --   2.2.2, 3.2          operations on words     words' Word: plus, rotr, shr
 --   3.1                 words and bytes         words' Endian: be, be_bytes
 --   4.1.2, 4.1.3        functions               ch, maj, big_sigma, small_sigma
---   4.2.2, 4.2.3        constants               Constants: K256, K512
+--   4.2.2, 4.2.3        constants               Constants: k256, k512
 --   5.1.1, 5.1.2        padding                 zero_bytes, padding, pad
 --   5.2.1, 5.2.2        parsing                 block_bytes, parse
 --   5.3.3, 5.3.5        initial hash values     Constants: iv256, iv512

@@ -1,7 +1,7 @@
 -- FIPS 180-4 (August 2015): the constants and initial hash values of SHA-256 and SHA-512.
 --
---   4.2.2  SHA-256 constants      K256
---   4.2.3  SHA-512 constants      K512
+--   4.2.2  SHA-256 constants      k256
+--   4.2.3  SHA-512 constants      k512
 --   5.3.3  initial value, SHA-256  iv256
 --   5.3.5  initial value, SHA-512  iv512
 -- Assumes nothing.

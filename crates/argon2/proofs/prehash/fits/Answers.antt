@@ -19,7 +19,6 @@ pub returns-then-most-password-3 : goal.returns-then-most-password-3
 unfolding message_limit
 returns-then-most-password-3 c = sym (lt-leb _ message_limit (omega arith))
 
--- the figures, the lengths, and all inputs but the last
 pub returns : goal.returns
 unfolding message_limit
 returns c =
