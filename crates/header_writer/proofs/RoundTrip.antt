@@ -24,7 +24,7 @@ use Rattle.slices.proofs.Laws.Parts.{part_front}
 use Rattle.refusals.specs.declared.Refusal.{Refusal}
 use Rattle.refusals.specs.declared.Refusal.TheVariants.{TooFewRounds}
 use Rattle.refusals.specs.declared.Outcome.TheVariants as outcome
-use Rattle.refusals.specs.Limits.{file_limit, rounds_least, argon2_fits}
+use Rattle.refusals.specs.Limits.{file_limit, rounds_least}
 use Rattle.refusals.proofs.Laws.Limits.{argon2_fits_bounds}
 use Rattle.fields.specs.Fields.{bytes_at, fits, field_bytes, nowhere}
 use Rattle.fields.specs.declared.Place.{Place}

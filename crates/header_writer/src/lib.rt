@@ -6,6 +6,7 @@
 // The contracts cite specs/Written, and specs/Answers for what an answer says. Refusals: 4, 9, 5, 11 and 20 of AES-KDF
 // or 22 of Argon2, then 10 or 6.
 #![tactic(auto)]
+
 ghost use Rattle.std.specs.Prelude.{◌≡◌, [], ◌∷◌, ◌≤◌, length, take};
 ghost use Rattle.slices.specs.Over.{laid, put_at};
 ghost use Rattle.header_writer.specs.Written as written;
