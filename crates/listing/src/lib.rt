@@ -7,6 +7,7 @@
 // `list` writes the text into a lent slice, all of it or nothing. The contracts cite specs/Listing. An input over
 // 65,536 bytes has the text R01; an output that is too short is refusal 17.
 #![tactic(auto)]
+
 ghost use Rattle.std.specs.Prelude.{◌≡◌, ◌+◌, ◌*◌, ◌≤◌, ◌<◌, length};
 ghost use Rattle.slices.specs.Over.{over};
 ghost use Rattle.decimal.specs.Decimal as decimals;

@@ -29,9 +29,9 @@ pub put_place-requires : goal.put_place-requires
 put_place-requires c =
     let e = c.decimal-d.ensures in
     let a = c.args in
-    let p = part_is _ (decimal a.place) _ _ e.0 e.1 c.part.ensures in
+    let p = part_is _ (decimal a.place) _ _ e.text_value e.n_value c.part.ensures in
     let l = ap (λ (v : List ℕ). length v) p in
-    omega (arith, l, e.1, c.if-out-k.false)
+    omega (arith, l, e.n_value, c.if-out-k.false)
 
 pub returns : goal.returns
 returns c =
@@ -39,10 +39,10 @@ returns c =
     let a = c.args in
     let d = a.out.now in
     let w = decimal a.place in
-    let p = part_is _ w _ _ e.0 e.1 c.part.ensures in
+    let p = part_is _ w _ _ e.text_value e.n_value c.part.ensures in
     let l = length-placed a.n w in
-    let m : length (placed_line a.n w) ≤ length d = omega (arith, l, e.1, c.if-out-k.false) in
+    let m : length (placed_line a.n w) ≤ length d = omega (arith, l, e.n_value, c.if-out-k.false) in
     record {
-      value = answer-wrote (placed_line a.n w) d _ (omega (arith, l, e.1)) (omega (arith, e.1, c.if-out-k.false));
+      value = answer-wrote (placed_line a.n w) d _ (omega (arith, l, e.n_value)) (omega (arith, e.n_value, c.if-out-k.false));
       out_after = after_wrote (placed_line a.n w) d _ m (c.put_place.ensures ∙ ap (λ (v : List ℕ). over (placed_line a.n v) d) p);
     }

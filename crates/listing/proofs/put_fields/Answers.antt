@@ -68,7 +68,7 @@ returns-then-byte_at-eq0 c =
 pub shape_of-out-then-byte_at-eq0 : goal.shape_of-out-then-byte_at-eq0
 shape_of-out-then-byte_at-eq0 c =
     let a = c.args in
-    ap (λ (x : List ℕ). length x) (returns c) ∙ length_over (field_lines a.s.now) a.out.now (search rules)
+    ap (λ (x : List ℕ). length x) (returns-then-byte_at-eq0 c) ∙ length_over (field_lines a.s.now) a.out.now (search rules)
 
 pub overflow_mul-to : goal.overflow_mul-to
 overflow_mul-to c =

@@ -39,14 +39,14 @@ slice_bounds-put_fields-count c =
     omega (arith, c.requires.s_in_bounds_2)
 
 pub slice_bounds-put_fields-start : goal.slice_bounds-put_fields-start
-slice_bounds-put_fields-start c = sub-put-fields c
+slice_bounds-put_fields-start c = slice_bounds-put_fields-count c
 
 pub put_fields-requires : goal.put_fields-requires
 put_fields-requires c =
     let s = c.args.s.now in
     let d = c.args.out.now in
     let h = long s c.requires.s_in_bounds in
-    let x = c.put_line.new.0 in
+    let x = c.put_line.new.out in
     let f = first_long s d x h c.requires.s_in_bounds_2
     (first_is s d _ _ c.part.ensures c.put_line.ensures) in
     let l = length_lines s h in
@@ -61,7 +61,7 @@ returns c =
     let s = c.args.s.now in
     let d = c.args.out.now in
     let h = long s c.requires.s_in_bounds in
-    let x = c.put_line.new.0 in
+    let x = c.put_line.new.out in
     lines_joined s d x h c.requires.s_in_bounds_2
     (first_is s d _ _ c.part.ensures c.put_line.ensures)
     _ (length x - 25) refl c.put_fields.ensures
