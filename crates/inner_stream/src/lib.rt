@@ -7,6 +7,7 @@
 // state 19 where its start was refused or no call could have left its position, then 1, 17. Nothing is written before
 // all is settled, and a refused stretch leaves the state as it was. A stretch makes its own blocks and no others.
 #![tactic(auto)]
+
 ghost use Rattle.std.specs.Prelude.{◌≡◌, true, ◌+◌, ◌^◌, ◌≤◌, ◌<◌, length, take, drop};
 ghost use Rattle.refusals.specs.Limits.{message_limit};
 ghost use Rattle.refusals.specs.declared.Written.TheVariants as written;

@@ -5,6 +5,7 @@
 // cites the crate stream's `apply` over the specification's block function. No index depends on the key; of branches see
 // docs/PROMISES.md, "Not claimed".
 #![tactic(auto)]
+
 ghost use Rattle.std.specs.Prelude.{◌≡◌};
 ghost use Rattle.stream.specs.Stream as stream;
 ghost use Rattle.salsa20.specs.Salsa20 as salsa20;

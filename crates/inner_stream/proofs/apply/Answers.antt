@@ -23,10 +23,10 @@ returns-then-stream_key_fits c =
     let m = sym c.is_listed.ensures ∙ c.if-is_listed.true in
     let k = sym c.stream_key_fits.ensures ∙ c.if-stream_key_fits.true in
     let e = c.write.ensures in
-    let r = rw (c.at-stream.ensures, position_at a.algorithm a.key.now a.position) at e.0 in
+    let r = rw (c.at-stream.ensures, position_at a.algorithm a.key.now a.position) at e.value in
     record {
       value = rw (m, k) r;
-      out_after = rw (m, k, ← r, ← covered_at a.algorithm a.key.now a.position a.bytes.now, ← c.at-stream.ensures) e.1;
+      out_after = rw (m, k, ← r, ← covered_at a.algorithm a.key.now a.position a.bytes.now, ← c.at-stream.ensures) e.out_after;
     }
 
 pub returns-then-is_listed : goal.returns-then-is_listed

@@ -9,7 +9,7 @@ use Rattle.inner_stream.proofs.chacha20_key.Goals as goal
 
 pub returns : goal.returns
 returns c =
-    let v = c.args.t1 in
+    let v = c.args.h in
     let l : length v ≡ 64 = search rules in
     let n : length (take 32 v) ≡ 32 = length-take-le 32 v (omega arith) in
     c.copy.ensures ∙ over_all (take 32 v) (replicate 32 0) (omega arith)

@@ -12,7 +12,7 @@ use Rattle.inner_stream.proofs.chacha20_nonce.Goals as goal
 
 pub returns : goal.returns
 returns c =
-    let v = c.args.t1 in
+    let v = c.args.h in
     let l : length v ≡ 64 = search rules in
     let k : 12 ≤ length (drop 32 v) = simp length-drop (omega arith) in
     let n : length (take 12 (drop 32 v)) ≡ 12 = length-take-le 12 (drop 32 v) k in

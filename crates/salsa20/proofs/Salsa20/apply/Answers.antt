@@ -28,7 +28,7 @@ loop-done-preserved c =
     let b = c.block-block.ensures ∙ ap f c.counter_at.ensures in
     let q = c.place_at.ensures in
     let x = c.xor_block-done.ensures in
-    applied_more f _ _ _ _ _ _ _ _ (length-block a.key _ a.nonce) c.loop-done.invariant b q x.0 x.1
+    applied_more f _ _ _ _ _ _ _ _ (length-block a.key _ a.nonce) c.loop-done.invariant b q x.value x.out_after
 
 pub loop-done-init : goal.loop-done-init
 loop-done-init c = applied_none _ _ _

@@ -8,10 +8,10 @@ use Rattle.salsa20.proofs.block.expanded.Goals as goal
 
 pub returns : goal.returns
 returns c =
-    let nonce_length_is : length c.args.t3 ≡ 8 = search rules in
+    let nonce_length_is : length c.args.nonce ≡ 8 = search rules in
     let counter_fits : c.args.counter < 2 ^ 64 = search rules in
     let a = c.args in
-    expanded_is a.t1 a.counter a.t3 nonce_length_is counter_fits
+    expanded_is a.key a.counter a.nonce nonce_length_is counter_fits
     c.u32_at.ensures c.u32_at-2.ensures c.u32_at-3.ensures c.u32_at-4.ensures
     c.u32_at-5.ensures c.u32_at-6.ensures
     c.u32_at-7.ensures c.u32_at-8.ensures c.u32_at-9.ensures c.u32_at-10.ensures
