@@ -47,7 +47,7 @@ use Rattle.unlocking.specs.Unlocking.{
   argon2_left,
   argon2_words,
   key_of,
-  memory_after,
+  memory_after as left_after,
   words_of,
   words_needed,
 }
@@ -92,26 +92,35 @@ pub argon2_ran : (y : Kind) (a : Argon2) (key f s m : List ℕ) → s ≡ bytes_
     → (t : Transformed) (z : List ℕ)
     → t ≡ run.transformed (run.outcome (salted y a key s) a.memory (length m)) (salted y a key s)
     → z ≡ run.left (run.outcome (salted y a key s) a.memory (length m)) (salted y a key s) m
-    → (t ≡ argon2_key y a key f (length m)) × (z ≡ argon2_left y a key f m)
-argon2_ran y a key f s m e t z g h = rw (← e) (g, h)
+    → record { value : t ≡ argon2_key y a key f (length m); memory_after : z ≡ argon2_left y a key f m }
+argon2_ran y a key f s m e t z g h = rw (← e) (record { value = g; memory_after = h })
 
 module _ (k : Kdf) (key f m : List ℕ) where
   pub key-rounds : (a : AesKdf) (t : List ℕ) → k ≡ kdf.AesKdf a
       → t ≡ transformed_key key (bytes_at f a.seed) a.rounds
-      → (record { outcome = outcome.Accepted; key = t } ≡ key_of k key f (length m)) × (m ≡ memory_after k key f m)
-  unfolding key_of memory_after
-  key-rounds a t e g = rw (e, g) (refl, refl)
+      → record {
+        value : record { outcome = outcome.Accepted; key = t } ≡ key_of k key f (length m);
+        memory_after : m ≡ left_after k key f m;
+      }
+  unfolding key_of left_after
+  key-rounds a t e g = rw (e, g) (record { value = refl; memory_after = refl })
 
   pub key_d : (a : Argon2) (t : Transformed) (z : List ℕ) → k ≡ kdf.Argon2d a
-      → (t ≡ argon2_key kind.Argon2d a key f (length m)) × (z ≡ argon2_left kind.Argon2d a key f m)
-      → (t ≡ key_of k key f (length m)) × (z ≡ memory_after k key f m)
-  unfolding key_of memory_after
+      → record {
+        value : t ≡ argon2_key kind.Argon2d a key f (length m);
+        memory_after : z ≡ argon2_left kind.Argon2d a key f m;
+      }
+      → record { value : t ≡ key_of k key f (length m); memory_after : z ≡ left_after k key f m }
+  unfolding key_of left_after
   key_d a t z e g = rw e g
 
   pub key_id : (a : Argon2) (t : Transformed) (z : List ℕ) → k ≡ kdf.Argon2id a
-      → (t ≡ argon2_key kind.Argon2id a key f (length m)) × (z ≡ argon2_left kind.Argon2id a key f m)
-      → (t ≡ key_of k key f (length m)) × (z ≡ memory_after k key f m)
-  unfolding key_of memory_after
+      → record {
+        value : t ≡ argon2_key kind.Argon2id a key f (length m);
+        memory_after : z ≡ argon2_left kind.Argon2id a key f m;
+      }
+      → record { value : t ≡ key_of k key f (length m); memory_after : z ≡ left_after k key f m }
+  unfolding key_of left_after
   key_id a t z e g = rw e g
 
 pub words-rounds : (k : Kdf) (a : AesKdf) → k ≡ kdf.AesKdf a → 0 ≡ words_of k

@@ -43,7 +43,7 @@ use Rattle.unlocking.specs.Answers.{said}
 use Rattle.unlocking.specs.Unlocking.{
   Opening,
   key_of,
-  memory_after,
+  memory_after as left_after,
   document_of,
   answer_of,
   opening,
@@ -93,9 +93,12 @@ module _ (t f d : List ℕ) (n : ℕ) (w : Written) (e : w ≡ written_of (ran_f
 
 module _ (o : Outcome) (t f d : List ℕ) (n : ℕ) where
   pub under_refused : (r : Refusal) → o ≡ outcome.Refused r
-      → (Refused r ≡ (opening_under o t f n).answer) × (d ≡ over (opening_under o t f n).bytes d)
+      → record {
+        value : Refused r ≡ (opening_under o t f n).answer;
+        out_after : d ≡ over (opening_under o t f n).bytes d;
+      }
   unfolding opening_under
-  under_refused r e = rw e (refl, sym (over_nil d))
+  under_refused r e = rw e (record { value = refl; out_after = sym (over_nil d) })
 
   pub under_accepted : o ≡ outcome.Accepted → opening t f n ≡ opening_under o t f n
   unfolding opening_under
@@ -103,7 +106,7 @@ module _ (o : Outcome) (t f d : List ℕ) (n : ℕ) where
 
 -- the answer u, the output x that was d, and the words y are those of an opening
 abbrev Shows : Unlocked → List ℕ → List ℕ → List ℕ → Opening → Type 0
-Shows u x d y o = (u ≡ o.answer) × ((x ≡ over o.bytes d) × (y ≡ o.memory))
+Shows u x d y o = record { value : u ≡ o.answer; out_after : x ≡ over o.bytes d; memory_after : y ≡ o.memory }
 
 -- .. also of the same opening by another name
 pub shows_same : (u : Unlocked) (x d y : List ℕ) (o q : Opening) → Shows u x d y o → o ≡ q → Shows u x d y q
@@ -111,25 +114,36 @@ shows_same u x d y o q h e = rw (← e) h
 
 -- .. and what the answer says is what the opening's says
 pub shows_said : (u : Unlocked) (x d y : List ℕ) (o : Opening) → Shows u x d y o
-    → (u ≡ o.answer) × ((x ≡ over o.bytes d) × ((y ≡ o.memory) × (said u ≡ said o.answer)))
-shows_said u x d y o h = (h.0, (h.1.0, (h.1.1, ap said h.0)))
+    → record {
+      value : u ≡ o.answer;
+      out_after : x ≡ over o.bytes d;
+      memory_after : y ≡ o.memory;
+      result_value : said u ≡ said o.answer;
+    }
+shows_said u x d y o h = record {
+  value = h.value;
+  out_after = h.out_after;
+  memory_after = h.memory_after;
+  result_value = ap said h.value;
+}
 
 pub with_is : (k : Kdf) (key f d m : List ℕ) (n : ℕ) (t : Transformed) (u : Unlocked) (x y : List ℕ)
     → t ≡ key_of k key f (length m)
-    → y ≡ memory_after k key f m
+    → y ≡ left_after k key f m
     → u ≡ (opening_keyed t f n).answer
     → x ≡ over (opening_keyed t f n).bytes d
     → Shows u x d y (opening_with k key f n m)
 unfolding opening_with
-with_is k key f d m n t u x y e g h i = (
-  h ∙ ap (λ (z : Transformed). (opening_keyed z f n).answer) e,
-  (i ∙ ap (λ (z : Transformed). over (opening_keyed z f n).bytes d) e, g),
-)
+with_is k key f d m n t u x y e g h i = record {
+  value = h ∙ ap (λ (z : Transformed). (opening_keyed z f n).answer) e;
+  out_after = i ∙ ap (λ (z : Transformed). over (opening_keyed z f n).bytes d) e;
+  memory_after = g;
+}
 
 module _ (x : Reading) (key f d m : List ℕ) (n : ℕ) where
   pub by_refused : (r : Refusal) → x ≡ read.Refused r → Shows (Refused r) d d m (opening_by x key f n m)
   unfolding opening_by
-  by_refused r e = rw e (refl, (sym (over_nil d), refl))
+  by_refused r e = rw e (record { value = refl; out_after = sym (over_nil d); memory_after = refl })
 
   pub by_read : (h : Header) → x ≡ read.Header h → opening_with h.kdf key f n m ≡ opening_by x key f n m
   unfolding opening_by
@@ -140,7 +154,7 @@ module _ (p k : keys.Credential) (f d m : List ℕ) (n : ℕ) where
   pub as_refused : (r : Refusal) → (keys.composite p k keys.absent).outcome ≡ outcome.Refused r
       → Shows (Refused r) d d m (opening_as p k f n m)
   unfolding opening_as opening_if
-  as_refused r e = rw e (refl, (sym (over_nil d), refl))
+  as_refused r e = rw e (record { value = refl; out_after = sym (over_nil d); memory_after = refl })
 
   pub as_accepted : (key : List ℕ) → key ≡ (keys.composite p k keys.absent).key
       → (keys.composite p k keys.absent).outcome ≡ outcome.Accepted
@@ -181,7 +195,7 @@ module _ (p k : keys.Credential) (f d m : List ℕ) (n : ℕ) where
   unlocked_long : (long_file || long_password || long_key_file) ≡ true
       → Shows (Refused TooLong) d d m (unlocked p k f n m)
   unfolding unlocked
-  unlocked_long e = rw e (refl, (sym (over_nil d), refl))
+  unlocked_long e = rw e (record { value = refl; out_after = sym (over_nil d); memory_after = refl })
 
   pub unlocked_first : long_file ≡ true → Shows (Refused TooLong) d d m (unlocked p k f n m)
   unlocked_first e = unlocked_long (first_of _ _ _ e)

@@ -7,7 +7,7 @@ use Rattle.unlocking.proofs.Laws.Opening.{as_refused, as_accepted, shows_same}
 use Rattle.unlocking.proofs.open_as.Goals as goal
 
 pub returns-in-Refused : goal.returns-in-Refused
-returns-in-Refused c =
+returns-in-Refused g c =
     let a = c.args in
     let p = credential a.has_password a.password.now in
     let k = credential a.has_key_file a.key_file.now in
@@ -16,7 +16,7 @@ returns-in-Refused c =
     (sym (ap (λ (w : Composed). w.outcome) c.composite-c.ensures) ∙ c.in-Refused.is)
 
 pub returns-in-Accepted : goal.returns-in-Accepted
-returns-in-Accepted c =
+returns-in-Accepted g c =
     let a = c.args in
     let p = credential a.has_password a.password.now in
     let k = credential a.has_key_file a.key_file.now in

@@ -4,7 +4,7 @@ use Rattle.unlocking.proofs.Laws.Opening.{with_is}
 use Rattle.unlocking.proofs.open_with.Goals as goal
 
 pub returns : goal.returns
-returns c =
+returns g c =
     let a = c.args in
     let d = a.out.now in
     with_is a.h.kdf a.composite a.f.now d a.memory.now (length d) c.key_of-t.result _ _ _

@@ -5,7 +5,7 @@ use Rattle.unlocking.proofs.Laws.Opening.{within, beyond, unlocked_first, unlock
 use Rattle.unlocking.proofs.unlock.Goals as goal
 
 pub returns-then-not-is_within : goal.returns-then-not-is_within
-returns-then-not-is_within c =
+returns-then-not-is_within g c =
     let a = c.args in
     let p = credential a.has_password a.password.now in
     let k = credential a.has_key_file a.key_file.now in
@@ -15,7 +15,7 @@ returns-then-not-is_within c =
     (beyond _ c.is_within.ensures c.if-not-is_within.true))
 
 pub returns-then-not-is_within-2 : goal.returns-then-not-is_within-2
-returns-then-not-is_within-2 c =
+returns-then-not-is_within-2 g c =
     let a = c.args in
     let p = credential a.has_password a.password.now in
     let k = credential a.has_key_file a.key_file.now in
@@ -26,7 +26,7 @@ returns-then-not-is_within-2 c =
     (beyond _ c.is_within-2.ensures c.if-not-is_within-2.true))
 
 pub returns-then-not-is_within-3 : goal.returns-then-not-is_within-3
-returns-then-not-is_within-3 c =
+returns-then-not-is_within-3 g c =
     let a = c.args in
     let p = credential a.has_password a.password.now in
     let k = credential a.has_key_file a.key_file.now in
@@ -38,7 +38,7 @@ returns-then-not-is_within-3 c =
     (beyond _ c.is_within-3.ensures c.if-not-is_within-3.true))
 
 pub returns : goal.returns
-returns c =
+returns g c =
     let a = c.args in
     let p = credential a.has_password a.password.now in
     let k = credential a.has_key_file a.key_file.now in

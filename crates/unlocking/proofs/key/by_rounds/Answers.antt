@@ -8,7 +8,7 @@ use Rattle.aes_kdf.specs.AesKdf.{transformed_key}
 use Rattle.unlocking.proofs.key.by_rounds.Goals as goal
 
 pub returns : goal.returns
-returns c =
+returns g c =
     let a = c.args in
     let p = c.part in
     let n = ap (λ (x : List ℕ). length x) p.ensures ∙ c.requires.seed_len in

@@ -4,7 +4,7 @@ use Rattle.unlocking.proofs.Laws.Key.{kdf_asked, kdf_seed_is, key-rounds, key_d,
 use Rattle.unlocking.proofs.key.key_of.Goals as goal
 
 pub by_rounds-key-requires : goal.by_rounds-key-requires
-by_rounds-key-requires c =
+by_rounds-key-requires g c =
     let a = c.args in
     let e = c.in-AesKdf.is in
     record {
@@ -13,19 +13,19 @@ by_rounds-key-requires c =
     }
 
 pub returns-in-AesKdf : goal.returns-in-AesKdf
-returns-in-AesKdf c =
+returns-in-AesKdf g c =
     let a = c.args in
     key-rounds a.h.kdf a.composite a.f.now a.memory.now _ _ c.in-AesKdf.is
     c.by_rounds-key.ensures
 
 pub returns-in-Argon2d : goal.returns-in-Argon2d
-returns-in-Argon2d c =
+returns-in-Argon2d g c =
     let a = c.args in
     key_d a.h.kdf a.composite a.f.now a.memory.now _ _ _ c.in-Argon2d.is
     c.by_argon2.ensures
 
 pub returns-in-Argon2id : goal.returns-in-Argon2id
-returns-in-Argon2id c =
+returns-in-Argon2id g c =
     let a = c.args in
     key_id a.h.kdf a.composite a.f.now a.memory.now _ _ _ c.in-Argon2id.is
     c.by_argon2-in-Argon2id.ensures

@@ -6,7 +6,7 @@ use Rattle.aes_kdf.specs.State.{advances}
 use Rattle.unlocking.proofs.rounds.advance.Given as goal
 
 abbrev pub invariant-loop-left : goal.invariant-loop-left
-invariant-loop-left l = advances (replicate l.left l.n) l.x ≡ advances (replicate 50 l.n) l.initial.x
+invariant-loop-left g l = advances (replicate l.left l.n) l.x ≡ advances (replicate 50 l.n) l.initial.x
 
 abbrev pub decreases-loop-left : goal.decreases-loop-left
-decreases-loop-left l = l.left
+decreases-loop-left g l = l.left

@@ -10,7 +10,7 @@ use Rattle.unlocking.proofs.Laws.Key.{key_of_fifty}
 use Rattle.unlocking.proofs.rounds.transform.Goals as goal
 
 pub returns : goal.returns
-returns c =
+returns g c =
     let n = c.args.rounds / 50 + 1 in
     ap (λ (t : Transformed). t.key) c.finish.ensures
     ∙ ap (λ (x : Transformation). (finished x).key)

@@ -3,9 +3,9 @@ use Rattle.explanations.specs.Sentences.{ascii}
 use Rattle.unlocking.proofs.Laws.Stack.{allows_unlimited, allows-number}
 use Rattle.unlocking.proofs.stack.allows.Goals as goal
 
-pub returns : goal.returns
+pub returns-then-begins : goal.returns-then-begins
 unfolding ascii
-returns c =
+returns-then-begins c =
     let a = c.args in
     allows_unlimited a.bytes a.text.now c.behind.result c.skip_spaces-at.result
     c.behind.ensures c.skip_spaces-at.ensures _
