@@ -4,6 +4,7 @@
 // The types of the openers' states and answers stand here; the code is in the crates opener and open_whole. specs/ has
 // the definitions that its contracts cite, and Agreement the claim of demand 3; proofs/Theorem proves it.
 #![tactic(auto)]
+
 use aes::RoundKeys;
 use ciphers::Cipher;
 use refusals::{Outcome, Written};
