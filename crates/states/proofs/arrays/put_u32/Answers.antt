@@ -2,10 +2,8 @@
 use mathlib.Core.Path.{◌≡◌}
 use Prim.Native.Nat.{suc, ◌+◌}
 use native.Mathlib.Omega.{arith}
-use lib.ListN.{length-set}
 use lib.Pow.{shr-shr}
 use Rattle.words.specs.Endian.{le_bytes}
-use borrow.Author.Rules.{rules}
 use Rattle.states.proofs.arrays.put_u32.Goals as goal
 
 pub returns : goal.returns
@@ -17,12 +15,3 @@ returns c =
     let e₂ : at + 2 ≡ suc (suc at) = omega arith in
     let e₃ : at + 3 ≡ suc (suc (suc at)) = omega arith in
     rw (shr-shr x 8 8, shr-shr x 16 8, e₁, e₂, e₃)
-
-pub bounds-out-at-2 : goal.bounds-out-at-2
-bounds-out-at-2 c = simp length-set (search rules)
-
-pub bounds-out-at-3 : goal.bounds-out-at-3
-bounds-out-at-3 c = simp length-set (search rules)
-
-pub bounds-out-at-4 : goal.bounds-out-at-4
-bounds-out-at-4 c = simp length-set (search rules)
