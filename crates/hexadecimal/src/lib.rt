@@ -7,6 +7,7 @@
 // room, and a character that is no digit counts as 0. `all_digits` tells whether all are digits; it looks at every
 // character, wherever the first one is that is no digit.
 #![tactic(auto)]
+
 ghost use Rattle.std.specs.Prelude.{◌≡◌, ◌/◌, ◌<◌, length, take};
 ghost use Rattle.slices.specs.Over.{over, laid};
 ghost use Rattle.hexadecimal.specs.Rfc4648 as rfc4648;

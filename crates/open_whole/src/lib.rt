@@ -7,6 +7,7 @@
 //   AES-256     the last piece is decrypted first, by itself: its padding says how long the payload is
 //   ChaCha20    the payload is as long as the ciphertext
 #![tactic(auto)]
+
 ghost use Rattle.std.specs.Prelude.{◌≡◌, ◌++◌, ◌+◌, ◌-◌, ◌%◌, ◌≤◌, length, take, drop};
 ghost use Rattle.slices.specs.Over.{over};
 ghost use Rattle.cbc.specs.Sp80038a.{previous};

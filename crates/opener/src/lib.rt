@@ -7,6 +7,7 @@
 // and 16, then 17. A refusal with 17 or 19 leaves the state as it was; any other gives one that is zero but for its
 // mark.
 #![tactic(auto)]
+
 ghost use Rattle.std.specs.Prelude.{◌≡◌, ◌+◌, ◌*◌, ◌≤◌, length};
 ghost use Rattle.refusals.specs.Limits.{file_limit};
 ghost use Rattle.slices.specs.Over.{over};

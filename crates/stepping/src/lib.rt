@@ -4,6 +4,7 @@
 // Each step is lent the part of the output behind what the others wrote. The contracts cite specs/Stepping. Refusals:
 // those of the start and of a step, at which the steps end; what accepted steps handed over stays.
 #![tactic(auto)]
+
 ghost use Rattle.std.specs.Prelude.{◌≡◌, length};
 ghost use Rattle.slices.specs.Over.{over};
 ghost use Rattle.stepping.specs.Stepping as stepping;

@@ -7,6 +7,7 @@
 // specs/Vault. Refusals: the header's 1 to 11, 20 and 22, then 2, 12 and 13; of the whole opening also those of the
 // blocks, and 17 last.
 #![tactic(auto)]
+
 ghost use Rattle.std.specs.Prelude.{◌≡◌, ◌+◌, ◌≤◌, length};
 ghost use Rattle.refusals.specs.Limits.{file_limit};
 ghost use Rattle.slices.specs.Over.{over};

@@ -1,6 +1,7 @@
 // The keys of a vault as its openers and its writer use them (document 01, "Keys" and "File after the header"), and the
 // tag of its header. The contracts cite specs/VaultKeys.
 #![tactic(auto)]
+
 ghost use Rattle.std.specs.Prelude.{◌≡◌};
 ghost use Rattle.vault_keys.specs.VaultKeys as kdbx4;
 

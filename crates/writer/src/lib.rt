@@ -7,6 +7,7 @@
 // order. A KDF is one of three with its own figures (document 02, Item 6). The nonce, the seeds and the salt are the
 // caller's: nothing here makes them, and the payload is not looked at. AES-256's table look-ups are not constant-time.
 #![tactic(auto)]
+
 ghost use Rattle.std.specs.Prelude.{◌≡◌, ◌+◌, ◌≤◌, length, take};
 ghost use Rattle.refusals.specs.Limits.{file_limit, payload_limit, message_limit};
 ghost use Rattle.slices.specs.Over.{over};

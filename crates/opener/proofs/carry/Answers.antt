@@ -42,5 +42,5 @@ returns-in-ChaCha20 c =
       prev_value = ap (λ (y : Cipher). prev_by y a.c a.prev a.held d) e;
       held_value = ap (λ (y : Cipher). held_by y a.c a.held d) e;
       out_after = c.take_chacha.ensures
-            ∙ ap (λ (y : Cipher). over (bytes_by y a.keys a.c a.prev a.held d) a.out.now) e;
+          ∙ ap (λ (y : Cipher). over (bytes_by y a.keys a.c a.prev a.held d) a.out.now) e;
     }
