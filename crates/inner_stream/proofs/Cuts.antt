@@ -200,6 +200,6 @@ module _ (algorithm : ℕ) (key : List ℕ) where
       (λ t. by_bool (leb (length key) stream_limit)
       (λ x. by_bool (leb (position + length a + length b) stream_limit)
       (λ y. rw (t, x, u, v, e, y))
-      (λ y. rw (t, x, e, y)))
+      (λ y. rw (t, x, u, v, e, y)))
       (λ x. rw (t, x)))
       (λ t. rw t)

@@ -62,8 +62,8 @@ module _ (position n room : ℕ) where
         room_is = leb-true n room u;
         end_fits = leb-true (position + n) stream_limit t;
       }))
-      (λ u. rw (t, u) (omega arith)))
-      (λ t. rw t (omega arith))
+      (λ u. simp (t, u) (omega arith)))
+      (λ t. by_bool (leb n room) (λ u. simp (t, u) (omega arith)) (λ u. simp (t, u) (omega arith)))
 
   pub planned-wrote : (m : ℕ) → planned position n room ≡ Wrote m → Planned position n room m
   planned-wrote m e = rw e at planned_kept
