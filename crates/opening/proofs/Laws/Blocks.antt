@@ -47,10 +47,8 @@ unfolding joined held_of padded
 joined-held t d =
     let n : ℕ = handed Aes256 (length t) in
     let e = length-drop n t in
-    rw (
-      take_at (drop n t) (replicate (16 - length (drop n t)) 0) (length t - n) e,
-      drop-append-le n t d (handed-le Aes256 (length t)),
-    )
+    ap (λ (x : List ℕ). x ++ d) (take_at (drop n t) (replicate (16 - length (drop n t)) 0) (length t - n) e)
+    ∙ sym (drop-append-le n t d (handed-le Aes256 (length t)))
 
 -- the pieces that were due and those that become due
 pieces-add : (t d : List ℕ)

@@ -120,7 +120,7 @@ progress_on (block.Refused r) k w f o b i p t n e l y = rw append-nil y.bytes_ar
 progress_on (block.Data s) k w f o b i p t n e l y =
     let u = open_turn k f o b i p t l y in
     hand_both (λ (x : Reply Plain). ProgressAt k f o (b ++ x.answer.bytes) x.next) n
-    (due k t (data_at f p s)) (plain Open i p t) (plain Open (suc i) (p + 36 + s) (t ++ data_at f p s))
+    _ (plain Open i p t) (plain Open (suc i) (p + 36 + s) (t ++ data_at f p s))
     (progress_same k f o b i p t y)
     (record {
       bytes_are = rw y.bytes_are (given_due k w t (data_at f p s));
