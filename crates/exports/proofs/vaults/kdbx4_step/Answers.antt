@@ -26,40 +26,6 @@ returns-in-Wrote c =
       count_after = x.count_after;
     }
 
-pub returns-then-number-eq17 : goal.returns-then-number-eq17
-returns-then-number-eq17 c =
-    let a = c.args in
-    let f = a.file.now in
-    let d = a.out.now in
-    let u = c.unpack-o.ensures in
-    let e = c.step-s.ensures in
-    let w = e.answer_value ∙ ap (λ (o : Opener). (step_of f o (length d)).answer.written) u in
-    let b = e.out_after ∙ ap (λ (o : Opener). over (step_of f o (length d)).answer.bytes d) u in
-    let x = answer_not_written a.count.now w c.number-number.ensures c.in-Refused.is in
-    record {
-      value = x.value;
-      state_after = kept_or_17 _ x.value c.if-number-eq17.true;
-      out_after = b;
-      count_after = x.count_after;
-    }
-
-pub returns-then-number-eq19 : goal.returns-then-number-eq19
-returns-then-number-eq19 c =
-    let a = c.args in
-    let f = a.file.now in
-    let d = a.out.now in
-    let u = c.unpack-o.ensures in
-    let e = c.step-s.ensures in
-    let w = e.answer_value ∙ ap (λ (o : Opener). (step_of f o (length d)).answer.written) u in
-    let b = e.out_after ∙ ap (λ (o : Opener). over (step_of f o (length d)).answer.bytes d) u in
-    let x = answer_not_written a.count.now w c.number-number.ensures c.in-Refused.is in
-    record {
-      value = x.value;
-      state_after = kept_or_19 _ x.value c.if-number-eq19.true;
-      out_after = b;
-      count_after = x.count_after;
-    }
-
 pub returns-in-Refused : goal.returns-in-Refused
 returns-in-Refused c =
     let a = c.args in
