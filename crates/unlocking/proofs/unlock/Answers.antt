@@ -1,4 +1,6 @@
 -- `unlocking::unlock` meets its contract. Assumes nothing.
+use mathlib.Core.Path.{ap}
+use mathlib.Core.Bool.{not}
 use lib.ListN.{length}
 use Rattle.keys.specs.Kdbx4Keys.{credential}
 use Rattle.unlocking.proofs.Laws.Opening.{within, beyond, unlocked_first, unlocked_second, unlocked_third, unlocked_within, shows_same, shows_said}
@@ -12,7 +14,7 @@ returns-then-not-is_within g c =
     let d = a.out.now in
     shows_said _ _ d _ _
     (unlocked_first p k a.f.now d a.memory.now (length d)
-    (beyond _ c.is_within.ensures c.if-not-is_within.true))
+    (beyond _ c.is_within.ensures (ap not c.if-not-is_within.true)))
 
 pub returns-then-not-is_within-2 : goal.returns-then-not-is_within-2
 returns-then-not-is_within-2 g c =
@@ -22,8 +24,8 @@ returns-then-not-is_within-2 g c =
     let d = a.out.now in
     shows_said _ _ d _ _
     (unlocked_second p k a.f.now d a.memory.now (length d)
-    (within _ c.is_within.ensures c.if-not-is_within.false)
-    (beyond _ c.is_within-2.ensures c.if-not-is_within-2.true))
+    (within _ c.is_within.ensures (ap not c.if-not-is_within.false))
+    (beyond _ c.is_within-2.ensures (ap not c.if-not-is_within-2.true)))
 
 pub returns-then-not-is_within-3 : goal.returns-then-not-is_within-3
 returns-then-not-is_within-3 g c =
@@ -33,9 +35,9 @@ returns-then-not-is_within-3 g c =
     let d = a.out.now in
     shows_said _ _ d _ _
     (unlocked_third p k a.f.now d a.memory.now (length d)
-    (within _ c.is_within.ensures c.if-not-is_within.false)
-    (within _ c.is_within-2.ensures c.if-not-is_within-2.false)
-    (beyond _ c.is_within-3.ensures c.if-not-is_within-3.true))
+    (within _ c.is_within.ensures (ap not c.if-not-is_within.false))
+    (within _ c.is_within-2.ensures (ap not c.if-not-is_within-2.false))
+    (beyond _ c.is_within-3.ensures (ap not c.if-not-is_within-3.true)))
 
 pub returns : goal.returns
 returns g c =
@@ -46,6 +48,6 @@ returns g c =
     shows_said _ _ d _ _
     (shows_same _ _ d _ _ _ c.open_as.ensures
     (unlocked_within p k a.f.now d a.memory.now (length d)
-    (within _ c.is_within.ensures c.if-not-is_within.false)
-    (within _ c.is_within-2.ensures c.if-not-is_within-2.false)
-    (within _ c.is_within-3.ensures c.if-not-is_within-3.false)))
+    (within _ c.is_within.ensures (ap not c.if-not-is_within.false))
+    (within _ c.is_within-2.ensures (ap not c.if-not-is_within-2.false))
+    (within _ c.is_within-3.ensures (ap not c.if-not-is_within-3.false))))

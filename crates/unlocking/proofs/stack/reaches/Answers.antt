@@ -5,7 +5,6 @@ use Prim.Native.Nat.{ℕ}
 use native.Mathlib.Omega.{arith}
 use lib.Dec.{leb}
 use lib.ListN.{get_or, drop}
-use borrow.Author.Tests.{not-true, not-false}
 use Rattle.unlocking.proofs.Laws.Stack.{digit-ge, digit-le, decimal_stop, decimal_more, decimal_none, reached, missed}
 use borrow.Author.Rules.{rules}
 use Rattle.unlocking.proofs.stack.reaches.Goals as goal
@@ -23,7 +22,7 @@ returns-then-not-is_digit c =
     let a = c.args in
     missed a.least c.loop-at.n _ (search rules)
     (decimal_stop a.s.now c.loop-at.at c.loop-at.n (search rules)
-    (sym c.is_digit.ensures ∙ not-true _ c.if-not-is_digit.true)
+    (sym c.is_digit.ensures ∙ c.if-not-is_digit.true)
     ∙ c.loop-at.invariant)
 
 pub overflow_sub-n : goal.overflow_sub-n
@@ -31,7 +30,7 @@ overflow_sub-n c =
     omega (
       arith,
       digit-ge (get_or c.args.s.now c.loop-at.at 0)
-          (sym c.is_digit.ensures ∙ not-false _ c.if-not-is_digit.false),
+          (sym c.is_digit.ensures ∙ c.if-not-is_digit.false),
     )
 
 pub overflow_cast-n : goal.overflow_cast-n
@@ -39,7 +38,7 @@ overflow_cast-n c =
     omega (
       arith,
       digit-le (get_or c.args.s.now c.loop-at.at 0)
-          (sym c.is_digit.ensures ∙ not-false _ c.if-not-is_digit.false),
+          (sym c.is_digit.ensures ∙ c.if-not-is_digit.false),
     )
 
 pub overflow_add-n : goal.overflow_add-n
@@ -47,14 +46,14 @@ overflow_add-n c =
     omega (
       arith,
       digit-le (get_or c.args.s.now c.loop-at.at 0)
-          (sym c.is_digit.ensures ∙ not-false _ c.if-not-is_digit.false),
+          (sym c.is_digit.ensures ∙ c.if-not-is_digit.false),
     )
 
 pub loop-at-preserved : goal.loop-at-preserved
 loop-at-preserved c =
     let a = c.args in
     decimal_more a.s.now c.loop-at.at c.loop-at.n (search rules)
-    (sym c.is_digit.ensures ∙ not-false _ c.if-not-is_digit.false)
+    (sym c.is_digit.ensures ∙ c.if-not-is_digit.false)
     ∙ c.loop-at.invariant
 
 pub returns : goal.returns
