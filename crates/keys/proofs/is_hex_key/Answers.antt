@@ -2,14 +2,8 @@
 use mathlib.Core.Path.{◌≡◌}
 use native.Mathlib.Omega.{arith}
 use lib.ListN.{length}
-use borrow.Author.Tests.{eq-eqb, ne_eqb}
+use borrow.Author.Tests.{eq-eqb}
 use Rattle.keys.proofs.is_hex_key.Goals as goal
-
-pub returns-then-s-ne64 : goal.returns-then-s-ne64
-returns-then-s-ne64 c =
-    let s = c.args.s.now in
-    let n : length s ≡ 64 → ⊥ = λ e. omega arith in
-    rw (ne_eqb (length s) 64 n)
 
 pub returns : goal.returns
 returns c =
