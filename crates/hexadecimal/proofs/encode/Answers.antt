@@ -68,6 +68,3 @@ returns c =
     let e = length-encode (fitting d s) in
     l.invariant.1.1
     ∙ ap (λ (w : List ℕ). over w d) (take_all (2 * l.i) (encode (fitting d s)) (omega arith))
-
-pub digit-requires : goal.digit-requires
-digit-requires c = omega (arith, c.shared_slice_known-in-loop-i-1.given c.loop-i.i)
