@@ -23,7 +23,7 @@ use Rattle.ciphers.specs.declared.Cipher.TheVariants.{Aes256, ChaCha20}
 use Rattle.slices.specs.Over.{over}
 use Rattle.slices.proofs.Laws.Over.{over_all}
 use Rattle.slices.specs.Cut.{cut}
-use Rattle.cbc.specs.Sp80038a.{blocks, last_block, previous, whole_blocks}
+use Rattle.cbc.specs.Sp80038a.{last_block, previous, whole_blocks}
 use Rattle.cbc.proofs.Laws.Mode.{decrypt-append, previous_last, previous_size, length-decrypt}
 use Rattle.fips197.specs.Fips197.{inv_cipher}
 use Rattle.aes_cbc.proofs.RoundTrip.{inv_cipher-keeps}
