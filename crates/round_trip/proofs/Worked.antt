@@ -23,7 +23,6 @@ use Rattle.aes_kdf.specs.AesKdf as aes_kdf
 use Rattle.kdf_dictionary.specs.Kdf.{kdf_bytes, kdf_length}
 use Rattle.kdf_dictionary.specs.declared.writer.Figures.{Figures as KdfFigures}
 use Rattle.kdf_dictionary.specs.declared.writer.Figures.TheVariants as figures
-use Rattle.kdf_dictionary.specs.declared.Kdf.TheVariants as kdf
 use Rattle.kdf_dictionary.proofs.Laws.Layout.{length-kdf_bytes}
 use Rattle.stream.proofs.Laws.Apply.{length-apply}
 use Rattle.fields.specs.Fields.{bytes_at}
