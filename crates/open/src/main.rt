@@ -58,14 +58,18 @@ fn read_named(rt: &HostRuntime, i: usize, buf: &mut [u8]) -> io::Result<Input> {
     Ok(read)
 }
 
-// Writes a line to standard error: what failed, a colon and why. The text of an error of the system ends in its number,
-// which is left out.
+// The text of an error of the system, without its number at the end.
+fn without_number(text: &str) -> &str {
+    match text.split_once(" (os error ") {
+        Some((said, _)) => said,
+        None => text,
+    }
+}
+
+// Writes a line to standard error: what failed, a colon and why.
 fn fail(rt: &HostRuntime, what: &[u8], why: io::Error) -> io::Result<()> {
     let text = format!(in rt.alloc(); "{why}")?;
-    let said = match text.as_str().split_once(" (os error ") {
-        Some((said, _)) => said,
-        None => text.as_str(),
-    };
+    let said = without_number(text.as_str());
     rt.stderr().write_all(what)?;
     eprintln!(rt; ": {said}")
 }
