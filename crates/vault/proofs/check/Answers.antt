@@ -1,6 +1,5 @@
 -- `vault::check` meets its contract. Assumes nothing.
 use mathlib.Core.Path.{sym, ap, ◌∙◌}
-use lib.ListN.{length}
 use Rattle.opening.specs.declared.Keys.{Keys}
 use Rattle.outer_header.proofs.Laws.Accepted.{header_stands}
 use Rattle.vault.specs.Vault.{start_at, start_in, start}
