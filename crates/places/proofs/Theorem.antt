@@ -4,7 +4,7 @@
 -- (the sentence).
 -- Not here: which field or item begins at the place (Begins).
 -- Assumes nothing.
-use mathlib.Core.Path.{◌≡◌, refl, sym, ap, ◌∙◌}
+use mathlib.Core.Path.{◌≡◌, refl, sym}
 use mathlib.Core.List.{List, []}
 use Prim.Native.Nat.{ℕ, zero, suc, ◌≤◌, ◌<◌}
 use native.Mathlib.Omega.{arith}
@@ -13,7 +13,6 @@ use Rattle.words.proofs.Laws.Cases.{by_bool}
 use Rattle.slices.specs.Same.{same}
 use Rattle.refusals.specs.declared.Refusal.{Refusal}
 use Rattle.refusals.specs.declared.Refusal.TheVariants.{Repeated, BrokenDictionary}
-use Rattle.refusals.specs.Numbers.{place_of}
 use Rattle.dictionary.specs.Dictionary.{entry_at, name_of, next, verdict, search_from, search_in, find_in, find}
 use Rattle.dictionary.specs.declared.Entry.{Entry}
 use Rattle.dictionary.specs.declared.Entry.TheVariants as entry

@@ -1,6 +1,6 @@
 -- The places of the worked header's faults, computed.
 -- Assumes nothing.
-use mathlib.Core.Path.{◌≡◌, refl}
+use mathlib.Core.Path.{refl}
 use Rattle.words.specs.Endian.{le, le_bytes}
 use Rattle.words.specs.Size.{int32}
 use Rattle.slices.specs.Same.{same}

@@ -6,14 +6,13 @@
 --   begin_lt                              the first byte of a field that was met
 --   judged_lies, header_lies              the checks after the end field; all checks
 -- Assumes nothing.
-use mathlib.Core.Path.{◌≡◌, refl, sym}
+use mathlib.Core.Path.{◌≡◌, refl}
 use mathlib.Core.Bool.{Bool, true, false, cond}
 use mathlib.Core.List.{List}
 use Prim.Native.Nat.{ℕ, zero, suc, ◌+◌, ◌-◌, ◌≤◌, ◌<◌}
 use native.Mathlib.Omega.{arith}
 use lib.Dec.{eqb, leb, ltb}
 use lib.ListN.{length, get_or, length-take, length-drop}
-use borrow.Author.Tests.{ltb-false}
 use Rattle.words.specs.Endian.{le}
 use Rattle.words.proofs.Laws.Cases.{by_bool}
 use Rattle.refusals.specs.Limits.{file_limit}

@@ -6,9 +6,8 @@
 --   custom_of_lies    the places of a custom dictionary
 -- Assumes nothing.
 use mathlib.Core.Path.{◌≡◌, refl, sym}
-use mathlib.Core.Bool.{Bool}
 use mathlib.Core.List.{List}
-use Prim.Native.Nat.{ℕ, ◌+◌, ◌-◌, ◌≤◌, ◌<◌}
+use Prim.Native.Nat.{ℕ, ◌+◌, ◌≤◌, ◌<◌}
 use native.Mathlib.Omega.{arith}
 use lib.Dec.{eqb, leb}
 use lib.ListN.{length}
@@ -26,28 +25,7 @@ use Rattle.dictionary.specs.declared.Found.{Found}
 use Rattle.dictionary.specs.declared.Found.TheVariants as found
 use Rattle.dictionary.proofs.Laws.Within.{verdict-placed}
 use Rattle.kdf_dictionary.specs.Kdf.{uuid_name, salt_name, rounds_name}
-use Rattle.kdf_dictionary.specs.KdfDictionary.{
-  searched,
-  item_of,
-  fault_in,
-  fault_at,
-  aes_kdf_in,
-  aes_kdf_of,
-  argon2_items,
-  complete,
-  incomplete,
-  argon2_listed,
-  unlisted,
-  outside,
-  argon2_figures,
-  argon2_in,
-  listed_as,
-  listed_in,
-  uuid_in,
-  uuid_of,
-  kdf_in,
-  kdf_of,
-}
+use Rattle.kdf_dictionary.specs.KdfDictionary.{searched, item_of, fault_in, fault_at, aes_kdf_in, aes_kdf_of, argon2_items, complete, incomplete, argon2_listed, unlisted, argon2_figures, argon2_in, listed_as, listed_in, uuid_in, uuid_of, kdf_in, kdf_of}
 use Rattle.kdf_dictionary.specs.declared.Items.{Items}
 use Rattle.kdf_dictionary.specs.declared.Variant.{Variant}
 use Rattle.kdf_dictionary.specs.declared.Listed.{Listed}

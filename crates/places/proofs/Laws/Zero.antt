@@ -7,7 +7,7 @@
 --   checked_zero, writing-zero       a header's figures; a vault
 --   unplaced-zero, inner-zero        a payload
 -- Assumes nothing.
-use mathlib.Core.Path.{◌≡◌, refl, sym}
+use mathlib.Core.Path.{◌≡◌, refl}
 use mathlib.Core.Bool.{cond}
 use mathlib.Core.List.{List, [], ◌++◌}
 use mathlib.Core.Option.{Option, none, some}
@@ -22,8 +22,6 @@ use Rattle.words.specs.declared.le.Size.TheVariants.{Of, Negative}
 use Rattle.words.proofs.Laws.Cases.{by_bool}
 use Rattle.refusals.specs.declared.Refusal.{Refusal}
 use Rattle.refusals.specs.declared.Refusal.TheVariants.{TooLong, CutShort, WrongSignature, WrongVersion, WrongSize, Repeated, UnknownField, Absent, Unlisted, BrokenDictionary, TooManyRounds, HeaderHash, HeaderTag, BlockTag, TrailingBytes, WrongPadding, NoRoom, WrongCredential, OutOfSequence, TooFewRounds, FigureOutside}
-use Rattle.refusals.specs.declared.Outcome.{Outcome}
-use Rattle.refusals.specs.declared.Outcome.TheVariants as outcome
 use Rattle.refusals.specs.declared.Written.{Written}
 use Rattle.refusals.specs.declared.Written.TheVariants as written
 use Rattle.refusals.specs.Numbers.{place_of, unplaced}
@@ -52,7 +50,7 @@ use Rattle.opening.specs.declared.Opener.{Opener}
 use Rattle.opening.specs.declared.Phase.{Phase}
 use Rattle.opening.specs.declared.Phase.TheVariants as phase
 use Rattle.opening.specs.Decryption.{Opened, refused, opened, decryption_by, aes_from, stripped, payload_by}
-use Rattle.opening.specs.Runs.{Reply, refuse, hand}
+use Rattle.opening.specs.Runs.{refuse, hand}
 use Rattle.opening.specs.Steps.{mark_of, sound, blank, bytes_by, last_by, close_by, taking, step_on, step_in, step_of}
 use Rattle.opening.specs.Whole.{close_of, walk_in, walk, whole, roomed, whole_in}
 use Rattle.vault.specs.Vault.{Begun, start_refused, begun, hash_holds, tag_holds, start_at}
