@@ -22,7 +22,7 @@ use Rattle.fips197.specs.Fips197.{cipher, final_round, key_expansion}
 use Rattle.aes.specs.Repeated.{repeated}
 use Rattle.aes_kdf.specs.AesKdf as kdf
 use Rattle.aes_kdf.specs.AesKdf.{Transforming, half_after}
-use Rattle.aes_kdf.specs.State.{held, stored, started, advanced}
+use Rattle.aes_kdf.specs.State.{held, stored, started}
 use Rattle.aes_kdf.specs.declared.Transformation.{Transformation}
 use Rattle.states.specs.Words.{words_at}
 use Rattle.states.specs.AesKdfState as bytes
