@@ -196,14 +196,6 @@ module _ (f d : List ℕ) (all : Ran) (o : Opener) (at left : ℕ) (out : List �
       let r = step_of_room f o (lent at out) in
       omega (arith, l, w, r)
 
-  pub same_long : length (take at out ++ (ys ++ drop (length out - at) (drop at out))) ≡ length d
-  same_long =
-      let l = y.long in
-      let w = y.within in
-      let t = length-take-le at out (omega (arith, l, w)) in
-      let g = handed-fits in
-      as_long f d all o at left out y (length out - at) ys _ refl v (simp length-append (omega (arith, t, g)))
-
   pub on_refusal : (r : Refusal) → (step_of f o (lent at out)).answer.written ≡ written.Refused r
       → record {
         value : written.Refused r ≡ written_of all;

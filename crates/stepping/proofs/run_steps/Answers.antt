@@ -3,19 +3,12 @@
 use mathlib.Core.Path.{sym, ap, ◌∙◌}
 use native.Mathlib.Omega.{arith}
 use Rattle.opening.specs.declared.Opener.{Opener}
-use Rattle.stepping.proofs.Laws.Stepping.{going_start, same_long, count_fits, on_refusal, on_closing, on_data, going_none}
+use Rattle.stepping.proofs.Laws.Stepping.{going_start, count_fits, on_refusal, on_closing, on_data, going_none}
 use borrow.Author.Rules.{rules}
 use Rattle.stepping.proofs.run_steps.Goals as goal
 
 pub loop-left-init : goal.loop-left-init
 loop-left-init c = going_start _ _ _
-
-pub shape_of-out-in-Refused : goal.shape_of-out-in-Refused
-shape_of-out-in-Refused c =
-    let l = c.loop-left in
-    let a = c.args in
-    same_long a.f.now a.out.now _ l.o l.at l.left l.out l.invariant
-    (search rules) _ c.step-s.ensures.out_after
 
 pub returns-in-Refused : goal.returns-in-Refused
 returns-in-Refused c =
@@ -32,16 +25,6 @@ overflow_add-result c =
     (search rules) _ c.step-s.ensures.out_after _
     (sym c.step-s.ensures.answer_value ∙ c.in-Wrote.is) in
     omega (arith, g)
-
-pub enum_told-1 : goal.enum_told-1
-enum_told-1 c = search rules
-
-pub shape_of-out-in-Ended : goal.shape_of-out-in-Ended
-shape_of-out-in-Ended c =
-    let l = c.loop-left in
-    let a = c.args in
-    same_long a.f.now a.out.now _ l.o l.at l.left l.out l.invariant
-    (search rules) _ c.step-s.ensures.out_after
 
 pub returns-in-Ended : goal.returns-in-Ended
 returns-in-Ended c =
@@ -60,35 +43,16 @@ overflow_add-at c =
     (search rules) _ c.step-s.ensures.out_after _ (sym c.step-s.ensures.answer_value ∙ c.in-Wrote.is) in
     omega (arith, g)
 
-pub overflow_sub-left : goal.overflow_sub-left
-overflow_sub-left c = search rules
-
-pub loop-left-smaller : goal.loop-left-smaller
-loop-left-smaller c = search rules
-
 pub loop-left-preserved : goal.loop-left-preserved
 loop-left-preserved c =
     let l = c.loop-left in
     let a = c.args in
     on_data a.f.now a.out.now _ l.o l.at l.left l.out l.invariant
     (search rules) _ c.step-s.ensures.out_after _ _ (sym c.step-s.ensures.answer_value ∙ c.in-Wrote.is)
-    c.step-s.ensures.next_value
-    c.in_default.not-Ended
-
-pub shape_of-out : goal.shape_of-out
-shape_of-out c = c.loop-left.invariant.long
+    c.step-s.ensures.next_value c.in_default.not-Ended
 
 pub returns : goal.returns
 returns c =
     let l = c.loop-left in
     let a = c.args in
     going_none a.f.now a.out.now _ l.o l.at l.left l.out l.invariant (omega arith)
-
-pub slice_bounds-step-count : goal.slice_bounds-step-count
-slice_bounds-step-count c = omega (arith, c.loop-left.invariant.long, c.loop-left.invariant.within)
-
-pub slice_bounds-step-start : goal.slice_bounds-step-start
-slice_bounds-step-start c = omega (arith, c.loop-left.invariant.long, c.loop-left.invariant.within)
-
-pub slice_bounds-step-end : goal.slice_bounds-step-end
-slice_bounds-step-end c = omega (arith, c.loop-left.invariant.long, c.loop-left.invariant.within)
