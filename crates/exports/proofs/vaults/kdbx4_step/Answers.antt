@@ -5,7 +5,7 @@ use Rattle.slices.specs.Over.{over}
 use Rattle.opening.specs.declared.Opener.{Opener}
 use Rattle.opening.specs.Steps.{step_of}
 use Rattle.states.specs.OpenerState.{packed}
-use Rattle.exports.proofs.Laws.{answer-wrote, answer_not_written, kept_or-wrote, kept_or_17, kept_or_19, kept_or_next}
+use Rattle.exports.proofs.Laws.{answer-wrote, answer_not_written, kept_or-wrote, kept_or_next}
 use Rattle.exports.proofs.vaults.kdbx4_step.Goals as goal
 
 pub returns-in-Wrote : goal.returns-in-Wrote
