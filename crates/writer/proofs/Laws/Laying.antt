@@ -25,7 +25,6 @@ use Rattle.block_stream.proofs.Laws.Sealed.{sealed-fits}
 use Rattle.block_stream.proofs.Laws.Judged.{length-block_bytes}
 use Rattle.ciphers.specs.declared.Cipher.{Cipher}
 use Rattle.opening.specs.declared.Keys.{Keys}
-use Rattle.opening.specs.Steps.{padded}
 use Rattle.vault_keys.specs.VaultKeys.{header_hash, header_tag}
 use Rattle.writer.specs.Stretches.{stretch_by, encrypted_over, summed}
 use Rattle.writer.proofs.Laws.Stretches.{length_stretch_le}

@@ -1,10 +1,9 @@
 -- `writer::write_front` meets its contract. Assumes nothing.
-use mathlib.Core.Path.{◌≡◌, ap, ◌∙◌}
+use mathlib.Core.Path.{ap, ◌∙◌}
 use Prim.Native.Nat.{ℕ, ◌+◌}
 use native.Mathlib.Omega.{arith}
-use lib.ListN.{length, take}
+use lib.ListN.{length}
 use Rattle.refusals.proofs.Laws.Limits.{message_file, file_size}
-use Rattle.header_writer.specs.Written.{header_length}
 use Rattle.writer.proofs.Laws.Files.{header_length_salt, header-summed}
 use borrow.Author.Rules.{rules}
 use Rattle.writer.proofs.write_front.Goals as goal
