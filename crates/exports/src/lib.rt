@@ -1,5 +1,5 @@
-// The static library for C and Rust: `rt staticlib exports` writes libexports.a. include/kdbx4.h declares what is in
-// it.
+// The static library for C and Rust: `rt lib` in this folder writes out/libexports.a. include/kdbx4.h declares what is
+// in it.
 //
 //   hashes          SHA-256 and SHA-512, whole and in parts, HMAC-SHA-256
 //   encryption      AES-256-CBC, ChaCha20 and Salsa20, in place
