@@ -1,6 +1,6 @@
 // AES-256 (FIPS 197): the key schedule, the cipher and its inverse on one block.
 //
-// The contracts cite specs of crate fips197: keyExpansion, cipher, invCipher. Every operation answers every input: a
+// The contracts cite specs of crate fips197: key_expansion, cipher, inv_cipher. Every operation answers every input: a
 // key is 32 bytes, a block 16, by their types. Round keys are a value; any 60 words are some key schedule, and the
 // promises hold of them. The operations of this file build the tables that they need (crate aes_tables) at each call:
 // some 2,000 instructions, and 8,000 for decryption. Those of the modules below take lent tables, for callers with many

@@ -3,7 +3,7 @@
 // A run of bytes is lent and changed where it stands; the ciphertext block before it, at first the IV, goes in by value
 // and the one for what follows comes back. The whole blocks of the run count: the bytes behind the last one stay as
 // they were. The contracts cite specs/Aes256Cbc, which is crate cbc's encrypt and decrypt over crate fips197's cipher
-// and invCipher. Each call builds its tables: some 2,000 instructions to encrypt, 8,000 to decrypt. Table look-ups are
+// and inv_cipher. Each call builds its tables: some 2,000 instructions to encrypt, 8,000 to decrypt. Table look-ups are
 // not constant-time.
 #![tactic(auto)]
 

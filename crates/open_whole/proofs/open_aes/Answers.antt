@@ -48,13 +48,15 @@ returns-in-Wrong c =
 
 pub overflow_sub-m : goal.overflow_sub-m
 overflow_sub-m c =
-    let padding_is : (padding c.last_piece-last.result ≡ c.in-Of.padding) × (c.in-Of.padding ≡ 0 → ⊥) = answer_of (padding c.last_piece-last.result) c.in-Of.padding (sym c.in-Of.is ∙ c.check.ensures.value) in
+    let padding_is =
+    answer_of (padding c.last_piece-last.result) c.in-Of.padding (sym c.in-Of.is ∙ c.check.ensures.value) in
     omega (arith, padding_is.0, padding-le c.last_piece-last.result)
 
 pub returns-then-out-c : goal.returns-then-out-c
 returns-then-out-c c =
     let nonce_size : length c.args.k.nonce ≡ 16 = search rules in
-    let padding_is : (padding c.last_piece-last.result ≡ c.in-Of.padding) × (c.in-Of.padding ≡ 0 → ⊥) = answer_of (padding c.last_piece-last.result) c.in-Of.padding (sym c.in-Of.is ∙ c.check.ensures.value) in
+    let padding_is =
+    answer_of (padding c.last_piece-last.result) c.in-Of.padding (sym c.in-Of.is ∙ c.check.ensures.value) in
     let q = c.in-Of.padding in
     let a = c.args in
     let t = text a.f.now a.p in
@@ -79,7 +81,8 @@ write_aes-requires c =
 pub returns-in-Of : goal.returns-in-Of
 returns-in-Of c =
     let nonce_size : length c.args.k.nonce ≡ 16 = search rules in
-    let padding_is : (padding c.last_piece-last.result ≡ c.in-Of.padding) × (c.in-Of.padding ≡ 0 → ⊥) = answer_of (padding c.last_piece-last.result) c.in-Of.padding (sym c.in-Of.is ∙ c.check.ensures.value) in
+    let padding_is =
+    answer_of (padding c.last_piece-last.result) c.in-Of.padding (sym c.in-Of.is ∙ c.check.ensures.value) in
     let q = c.in-Of.padding in
     let a = c.args in
     let t = text a.f.now a.p in

@@ -7,10 +7,11 @@
 --   on_refusal, on_closing, on_data    the same of the slice that the code writes into
 --   going_none            no step left
 --   ran_refused, ran_accepted          the start before them
+--   no_ended_tag          of two tags, neither is the ended mark's
 -- Not here: one step (crate opening).
 -- Assumes nothing.
 use mathlib.Core.Path.{◌≡◌, refl, sym, ap, ◌∙◌}
-use mathlib.Core.Logic.{◌≢◌}
+use mathlib.Core.Logic.{◌≢◌, ◌⊎◌, inl, inr}
 use mathlib.Core.List.{List, [], ◌++◌, append_assoc, append-nil}
 use Prim.Native.Nat.{ℕ, zero, suc, ◌+◌, ◌-◌, ◌≤◌, ◌<◌}
 use native.Mathlib.Nat.{sub-zero}
@@ -196,6 +197,14 @@ module _ (f d : List ℕ) (all : Ran) (o : Opener) (at left : ℕ) (out : List �
       let r = step_of_room f o (lent at out) in
       omega (arith, l, w, r)
 
+  pub same_long : length (take at out ++ (ys ++ drop (length out - at) (drop at out))) ≡ length d
+  same_long =
+      let l = y.long in
+      let w = y.within in
+      let t = length-take-le at out (omega (arith, l, w)) in
+      let g = handed-fits in
+      as_long f d all o at left out y (length out - at) ys _ refl v (simp length-append (omega (arith, t, g)))
+
   pub on_refusal : (r : Refusal) → (step_of f o (lent at out)).answer.written ≡ written.Refused r
       → record {
         value : written.Refused r ≡ written_of all;
@@ -283,3 +292,8 @@ pub ran_accepted : (t f had out : List ℕ) (n : ℕ) (w : Written) (o : Outcome
     }
 unfolding ran_from ran_by
 ran_accepted t f had out n w o first e i h g q = rw (sym e ∙ h, sym i) (record { value = g; out_after = q })
+
+-- the tag of a mark that is open or closed is not that of an ended one
+pub no_ended_tag : (x : ℕ) → (x ≡ 0) ⊎ (x ≡ 1) → x ≡ 2 → ⊥
+no_ended_tag x (inl e) h = omega arith
+no_ended_tag x (inr e) h = omega arith

@@ -5,20 +5,21 @@ use Prim.Native.Nat.{ℕ}
 use lib.ListN.{length}
 use Rattle.slices.specs.Over.{over}
 use Rattle.slices.proofs.Laws.Over.{over_nil}
-use Rattle.writer.specs.Written.{Figures, figures, header_of, file_cut, checked_of}
+use Rattle.writer.specs.Written.{figures, header_of, file_cut, checked_of}
 use Rattle.writer.proofs.Laws.Checks.{checked-sized, writing-refused, shown-refused, writing_as, shown_as}
 use Rattle.writer.proofs.write.Goals as goal
 
 pub returns-in-Refused : goal.returns-in-Refused
 unfolding checked_of
 returns-in-Refused c =
-    let given : Figures = figures c.args.minor c.args.cipher.now c.args.seed.now c.args.nonce.now c.args.figures c.args.salt.now c.args.custom.now in
-    let b = c.args.payload.now in
-    let d = c.args.out.now in
+    let a = c.args in
+    let given = figures a.minor a.cipher.now a.seed.now a.nonce.now a.figures a.salt.now a.custom.now in
+    let b = a.payload.now in
+    let d = a.out.now in
     let e = sym c.check.ensures.value ∙ c.in-Refused.is in
     record {
-      value = writing-refused given c.args.t b (length d) _ e;
-      out_after = sym (over_nil d) ∙ ap (λ (w : List ℕ). over w d) (shown-refused given c.args.t b (length d) _ e);
+      value = writing-refused given a.t b (length d) _ e;
+      out_after = sym (over_nil d) ∙ ap (λ (w : List ℕ). over w d) (shown-refused given a.t b (length d) _ e);
     }
 
 pub write_checked-requires : goal.write_checked-requires
@@ -30,13 +31,14 @@ write_checked-requires c =
 pub returns-in-As : goal.returns-in-As
 unfolding checked_of file_cut header_of
 returns-in-As c =
-    let given : Figures = figures c.args.minor c.args.cipher.now c.args.seed.now c.args.nonce.now c.args.figures c.args.salt.now c.args.custom.now in
-    let b = c.args.payload.now in
-    let d = c.args.out.now in
+    let a = c.args in
+    let given = figures a.minor a.cipher.now a.seed.now a.nonce.now a.figures a.salt.now a.custom.now in
+    let b = a.payload.now in
+    let d = a.out.now in
     let e = sym c.check.ensures.value ∙ c.in-As.is in
     let h = c.write_checked.ensures in
-    let w = h.value ∙ writing_as given _ c.args.t b (length d) e in
+    let w = h.value ∙ writing_as given _ a.t b (length d) e in
     record {
       value = w;
-      out_after = h.out_after ∙ ap (λ (x : List ℕ). over x d) (shown_as given _ c.args.t b (length d) _ e w);
+      out_after = h.out_after ∙ ap (λ (x : List ℕ). over x d) (shown_as given _ a.t b (length d) _ e w);
     }

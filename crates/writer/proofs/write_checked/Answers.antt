@@ -1,6 +1,5 @@
 -- `writer::write_checked` meets its contract. Assumes nothing.
 use mathlib.Core.Path.{◌≡◌, refl, sym, ap, ◌∙◌}
-use mathlib.Core.List.{List}
 use Prim.Native.Nat.{ℕ, ◌≤◌}
 use native.Mathlib.Omega.{arith}
 use lib.ListN.{length}
@@ -8,7 +7,7 @@ use borrow.Author.Tests.{leb-true}
 use Rattle.slices.specs.Over.{over}
 use Rattle.refusals.specs.Limits.{file_limit}
 use Rattle.writer.specs.Written.{sizes, settled}
-use Rattle.writer.specs.Stretches.{file_length, file_of, bytes_of}
+use Rattle.writer.specs.Stretches.{file_of, bytes_of}
 use Rattle.writer.proofs.Laws.Checks.{settled-payload, settled-file, settled_room, settled-wrote}
 use Rattle.writer.proofs.Laws.Files.{length-file}
 use Rattle.writer.proofs.write_checked.Goals as goal
@@ -23,10 +22,12 @@ file_len-f-requires c =
 pub returns-then-out-f : goal.returns-then-out-f
 unfolding bytes_of over
 returns-then-out-f c =
-    let file : List ℕ = file_of c.args.minor c.args.c c.args.seed.now c.args.nonce.now c.args.figures c.args.salt.now c.args.custom.now c.args.t c.args.payload.now in
-    let long : length file ≡ file_length c.args.c c.args.figures (length c.args.salt.now) (length c.args.custom.now) (length c.args.payload.now) = length-file c.args.minor c.args.c c.args.seed.now c.args.nonce.now c.args.figures c.args.salt.now c.args.custom.now c.requires c.args.t c.args.payload.now in
-    let b = length c.args.payload.now in
-    let n = length c.args.out.now in
+    let a = c.args in
+    let file = file_of a.minor a.c a.seed.now a.nonce.now a.figures a.salt.now a.custom.now a.t a.payload.now in
+    let long =
+    length-file a.minor a.c a.seed.now a.nonce.now a.figures a.salt.now a.custom.now c.requires a.t a.payload.now in
+    let b = length a.payload.now in
+    let n = length a.out.now in
     let e : c.file_len-f.result ≡ length file = c.file_len-f.ensures ∙ sym long in
     record {
       value = settled_room b c.file_len-f.result n (sym c.payload_fits.ensures ∙ c.if-payload_fits.true)
@@ -50,10 +51,12 @@ write_file-requires c =
 pub returns-then-file_fits : goal.returns-then-file_fits
 unfolding bytes_of
 returns-then-file_fits c =
-    let file : List ℕ = file_of c.args.minor c.args.c c.args.seed.now c.args.nonce.now c.args.figures c.args.salt.now c.args.custom.now c.args.t c.args.payload.now in
-    let long : length file ≡ file_length c.args.c c.args.figures (length c.args.salt.now) (length c.args.custom.now) (length c.args.payload.now) = length-file c.args.minor c.args.c c.args.seed.now c.args.nonce.now c.args.figures c.args.salt.now c.args.custom.now c.requires c.args.t c.args.payload.now in
-    let b = length c.args.payload.now in
-    let n = length c.args.out.now in
+    let a = c.args in
+    let file = file_of a.minor a.c a.seed.now a.nonce.now a.figures a.salt.now a.custom.now a.t a.payload.now in
+    let long =
+    length-file a.minor a.c a.seed.now a.nonce.now a.figures a.salt.now a.custom.now c.requires a.t a.payload.now in
+    let b = length a.payload.now in
+    let n = length a.out.now in
     let e : c.file_len-f.result ≡ length file = c.file_len-f.ensures ∙ sym long in
     record {
       value = settled-wrote b c.file_len-f.result n (sym c.payload_fits.ensures ∙ c.if-payload_fits.true)
@@ -65,10 +68,12 @@ returns-then-file_fits c =
 pub returns-then-payload_fits : goal.returns-then-payload_fits
 unfolding bytes_of over
 returns-then-payload_fits c =
-    let file : List ℕ = file_of c.args.minor c.args.c c.args.seed.now c.args.nonce.now c.args.figures c.args.salt.now c.args.custom.now c.args.t c.args.payload.now in
-    let long : length file ≡ file_length c.args.c c.args.figures (length c.args.salt.now) (length c.args.custom.now) (length c.args.payload.now) = length-file c.args.minor c.args.c c.args.seed.now c.args.nonce.now c.args.figures c.args.salt.now c.args.custom.now c.requires c.args.t c.args.payload.now in
-    let b = length c.args.payload.now in
-    let n = length c.args.out.now in
+    let a = c.args in
+    let file = file_of a.minor a.c a.seed.now a.nonce.now a.figures a.salt.now a.custom.now a.t a.payload.now in
+    let long =
+    length-file a.minor a.c a.seed.now a.nonce.now a.figures a.salt.now a.custom.now c.requires a.t a.payload.now in
+    let b = length a.payload.now in
+    let n = length a.out.now in
     let e : c.file_len-f.result ≡ length file = c.file_len-f.ensures ∙ sym long in
     record {
       value = settled-file b c.file_len-f.result n (sym c.payload_fits.ensures ∙ c.if-payload_fits.true)
@@ -80,9 +85,10 @@ returns-then-payload_fits c =
 pub returns : goal.returns
 unfolding bytes_of over
 returns c =
-    let file : List ℕ = file_of c.args.minor c.args.c c.args.seed.now c.args.nonce.now c.args.figures c.args.salt.now c.args.custom.now c.args.t c.args.payload.now in
-    let b = length c.args.payload.now in
-    let n = length c.args.out.now in
+    let a = c.args in
+    let file = file_of a.minor a.c a.seed.now a.nonce.now a.figures a.salt.now a.custom.now a.t a.payload.now in
+    let b = length a.payload.now in
+    let n = length a.out.now in
     record {
       value = settled-payload b (length file) n (sym c.payload_fits.ensures ∙ c.if-payload_fits.false);
       out_after = refl;

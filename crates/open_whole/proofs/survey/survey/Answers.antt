@@ -1,11 +1,10 @@
 -- `open_whole::survey::survey` meets its contract. The invariant: what is left of the pass answers what the whole pass
 -- answers. A block has 36 bytes at least, so the number and the count stay below the place. Assumes nothing.
 use mathlib.Core.Path.{sym, ◌∙◌}
-use Prim.Native.Nat.{◌≤◌}
 use native.Mathlib.Nat.{sub-zero}
 use native.Mathlib.Omega.{arith}
 use lib.ListN.{length}
-use Rattle.open_whole.proofs.Laws.Sizes.{Standing, judge_data, judge_closing}
+use Rattle.open_whole.proofs.Laws.Sizes.{judge_data, judge_closing}
 use Rattle.open_whole.proofs.Laws.Passes.{survey_more, survey-refused, survey_trailing, survey-text}
 use borrow.Author.Rules.{rules}
 use Rattle.open_whole.proofs.survey.survey.Goals as goal
@@ -49,12 +48,13 @@ returns-in-Closing c =
 
 pub loop-r-preserved : goal.loop-r-preserved
 loop-r-preserved c =
-    let data_there : Standing c.args.f.now c.loop-r.at c.in-Data.n × (1 ≤ c.in-Data.n) = let l = c.loop-r in let a = c.args in judge_data a.base a.f.now l.number l.at c.in-Data.n (sym c.judge.ensures.value ∙ c.in-Data.is) in
+    let there =
+    judge_data c.args.base c.args.f.now c.loop-r.number c.loop-r.at c.in-Data.n
+    (sym c.judge.ensures.value ∙ c.in-Data.is) in
     let l = c.loop-r in
     let a = c.args in
-    let s = data_there in
-    let w = s.0.within in
-    let m = s.1 in (
+    let w = there.0.within in
+    let m = there.1 in (
       omega (arith, w, m),
       (
         omega (arith, w, m),
@@ -69,23 +69,31 @@ loop-r-preserved c =
 
 pub overflow_add-number : goal.overflow_add-number
 overflow_add-number c =
-    let data_there : Standing c.args.f.now c.loop-r.at c.in-Data.n × (1 ≤ c.in-Data.n) = let l = c.loop-r in let a = c.args in judge_data a.base a.f.now l.number l.at c.in-Data.n (sym c.judge.ensures.value ∙ c.in-Data.is) in
-    omega (arith, data_there.0.within)
+    let there =
+    judge_data c.args.base c.args.f.now c.loop-r.number c.loop-r.at c.in-Data.n
+    (sym c.judge.ensures.value ∙ c.in-Data.is) in
+    omega (arith, there.0.within)
 
 pub overflow_add-at-in-Data : goal.overflow_add-at-in-Data
 overflow_add-at-in-Data c =
-    let data_there : Standing c.args.f.now c.loop-r.at c.in-Data.n × (1 ≤ c.in-Data.n) = let l = c.loop-r in let a = c.args in judge_data a.base a.f.now l.number l.at c.in-Data.n (sym c.judge.ensures.value ∙ c.in-Data.is) in
-    omega (arith, data_there.0.within)
+    let there =
+    judge_data c.args.base c.args.f.now c.loop-r.number c.loop-r.at c.in-Data.n
+    (sym c.judge.ensures.value ∙ c.in-Data.is) in
+    omega (arith, there.0.within)
 
 pub overflow_add-at-in-Data-2 : goal.overflow_add-at-in-Data-2
 overflow_add-at-in-Data-2 c =
-    let data_there : Standing c.args.f.now c.loop-r.at c.in-Data.n × (1 ≤ c.in-Data.n) = let l = c.loop-r in let a = c.args in judge_data a.base a.f.now l.number l.at c.in-Data.n (sym c.judge.ensures.value ∙ c.in-Data.is) in
-    omega (arith, data_there.0.within)
+    let there =
+    judge_data c.args.base c.args.f.now c.loop-r.number c.loop-r.at c.in-Data.n
+    (sym c.judge.ensures.value ∙ c.in-Data.is) in
+    omega (arith, there.0.within)
 
 pub overflow_add-taken : goal.overflow_add-taken
 overflow_add-taken c =
-    let data_there : Standing c.args.f.now c.loop-r.at c.in-Data.n × (1 ≤ c.in-Data.n) = let l = c.loop-r in let a = c.args in judge_data a.base a.f.now l.number l.at c.in-Data.n (sym c.judge.ensures.value ∙ c.in-Data.is) in
-    omega (arith, data_there.0.within)
+    let there =
+    judge_data c.args.base c.args.f.now c.loop-r.number c.loop-r.at c.in-Data.n
+    (sym c.judge.ensures.value ∙ c.in-Data.is) in
+    omega (arith, there.0.within)
 
 pub loop-r-smaller : goal.loop-r-smaller
 loop-r-smaller c = omega arith

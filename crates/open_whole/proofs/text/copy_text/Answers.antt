@@ -37,8 +37,9 @@ overflow_sub-n c = least_r _ _ _ c.least-s.ensures
 
 pub overflow_add-start-in-loop-done : goal.overflow_add-start-in-loop-done
 overflow_add-start-in-loop-done c =
-    let block_there : c.loop-done.at + 36 + c.block_size-n.result ≤ length c.args.f.now = let l = c.loop-done in let a = c.args in block_within a.f.now l.at c.block_size-n.result c.block_size-n.ensures c.if-n-eq0.false in
-    omega (arith, block_there, least_r _ _ _ c.least-s.ensures)
+    let there =
+    block_within c.args.f.now c.loop-done.at c.block_size-n.result c.block_size-n.ensures c.if-n-eq0.false in
+    omega (arith, there, least_r _ _ _ c.least-s.ensures)
 
 pub slice_bounds-copy-start-in-loop-done : goal.slice_bounds-copy-start-in-loop-done
 slice_bounds-copy-start-in-loop-done c = omega (arith, least_r _ _ _ c.least-s.ensures)
@@ -52,8 +53,9 @@ overflow_sub-left c = least_l _ _ _ c.least-s.ensures
 
 pub loop-done-smaller : goal.loop-done-smaller
 loop-done-smaller c =
-    let block_there : c.loop-done.at + 36 + c.block_size-n.result ≤ length c.args.f.now = let l = c.loop-done in let a = c.args in block_within a.f.now l.at c.block_size-n.result c.block_size-n.ensures c.if-n-eq0.false in
-    omega (arith, block_there)
+    let there =
+    block_within c.args.f.now c.loop-done.at c.block_size-n.result c.block_size-n.ensures c.if-n-eq0.false in
+    omega (arith, there)
 
 -- how long a block's data is behind the bytes to skip
 length_part : (f : List ℕ) (p n s : ℕ) → p + 36 + n ≤ length f → s ≤ n
@@ -64,7 +66,8 @@ length_part f p n s w h =
 
 pub loop-done-preserved : goal.loop-done-preserved
 loop-done-preserved c =
-    let block_there : c.loop-done.at + 36 + c.block_size-n.result ≤ length c.args.f.now = let l = c.loop-done in let a = c.args in block_within a.f.now l.at c.block_size-n.result c.block_size-n.ensures c.if-n-eq0.false in
+    let there =
+    block_within c.args.f.now c.loop-done.at c.block_size-n.result c.block_size-n.ensures c.if-n-eq0.false in
     let l = c.loop-done in
     let a = c.args in
     let f = a.f.now in
@@ -75,7 +78,7 @@ loop-done-preserved c =
     let e : c.least-m.result ≡ min (length l.out - l.done) (length b) =
     c.least-m.ensures
     ∙ ap (min (length l.out - l.done))
-    (sym (length_part f l.at n s block_there (least_r _ _ _ c.least-s.ensures))) in
+    (sym (length_part f l.at n s there (least_r _ _ _ c.least-s.ensures))) in
     filling_more t (drop l.left (text f l.at)) a.out.now l.out l.done l.invariant
     b (drop (l.left - s) (text f (l.at + 36 + n))) c.copy.new.out (length l.out - l.done)
     c.least-m.result
@@ -93,20 +96,24 @@ returns c =
 
 pub overflow_add-start : goal.overflow_add-start
 overflow_add-start c =
-    let block_there : c.loop-done.at + 36 + c.block_size-n.result ≤ length c.args.f.now = let l = c.loop-done in let a = c.args in block_within a.f.now l.at c.block_size-n.result c.block_size-n.ensures c.if-n-eq0.false in
-    omega (arith, block_there)
+    let there =
+    block_within c.args.f.now c.loop-done.at c.block_size-n.result c.block_size-n.ensures c.if-n-eq0.false in
+    omega (arith, there)
 
 pub overflow_add-end : goal.overflow_add-end
 overflow_add-end c =
-    let block_there : c.loop-done.at + 36 + c.block_size-n.result ≤ length c.args.f.now = let l = c.loop-done in let a = c.args in block_within a.f.now l.at c.block_size-n.result c.block_size-n.ensures c.if-n-eq0.false in
-    omega (arith, block_there)
+    let there =
+    block_within c.args.f.now c.loop-done.at c.block_size-n.result c.block_size-n.ensures c.if-n-eq0.false in
+    omega (arith, there)
 
 pub overflow_add-end-in-loop-done : goal.overflow_add-end-in-loop-done
 overflow_add-end-in-loop-done c =
-    let block_there : c.loop-done.at + 36 + c.block_size-n.result ≤ length c.args.f.now = let l = c.loop-done in let a = c.args in block_within a.f.now l.at c.block_size-n.result c.block_size-n.ensures c.if-n-eq0.false in
-    omega (arith, block_there)
+    let there =
+    block_within c.args.f.now c.loop-done.at c.block_size-n.result c.block_size-n.ensures c.if-n-eq0.false in
+    omega (arith, there)
 
 pub slice_bounds-copy-end-in-loop-done : goal.slice_bounds-copy-end-in-loop-done
 slice_bounds-copy-end-in-loop-done c =
-    let block_there : c.loop-done.at + 36 + c.block_size-n.result ≤ length c.args.f.now = let l = c.loop-done in let a = c.args in block_within a.f.now l.at c.block_size-n.result c.block_size-n.ensures c.if-n-eq0.false in
-    omega (arith, block_there)
+    let there =
+    block_within c.args.f.now c.loop-done.at c.block_size-n.result c.block_size-n.ensures c.if-n-eq0.false in
+    omega (arith, there)
