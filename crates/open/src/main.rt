@@ -68,10 +68,14 @@ fn without_number(text: &str) -> &str {
 
 // Writes a line to standard error: what failed, a colon and why.
 fn fail(rt: &HostRuntime, what: &[u8], why: io::Error) -> io::Result<()> {
-    let text = format!(in rt.alloc(); "{why}")?;
-    let said = without_number(text.as_str());
     rt.stderr().write_all(what)?;
-    eprintln!(rt; ": {said}")
+    match format!(in rt.alloc(); "{why}") {
+        Ok(text) => {
+            let said = without_number(text.as_str());
+            eprintln!(rt; ": {said}")
+        }
+        Err(_) => eprintln!(rt; ": {why}"),
+    }
 }
 
 // Opens the vault that the first argument names.
