@@ -14,22 +14,16 @@ ghost use Rattle.slices.specs.Stretch.{Stretch};
 pub fn least(a: usize, b: usize) -> usize
     ensures { result ≡ min a b }
 {
-    if a < b {
-        return a;
-    }
-    b
+    a.min(b)
 }
 
 // Copies the bytes of `s` over the front of `out`, as many as there is room for.
+#[tactic(auto, using(std::proofs::lemmas::List::take_min), unfolding(crate::specs::Over::over))]
 pub fn copy(out: &mut [u8], s: &[u8])
     ensures { out.new ≡ over (take (length out.old) s.now) out.old }
 {
-    let n = least(out.len(), s.len());
-    let mut i: usize = 0;
-    while i < n {
-        out[i] = s[i];
-        i += 1;
-    }
+    let n = out.len().min(s.len());
+    out[..n].copy_from_slice(&s[..n]);
 }
 
 // Copies the bytes of `s` into `out` from a place on, as many as there is room for.
@@ -50,10 +44,8 @@ pub fn same(a: &[u8], b: &[u8]) -> bool
         return false;
     }
     let mut d: u8 = 0;
-    let mut i: usize = 0;
-    while i < a.len() {
-        d = d | (a[i] ^ b[i]);
-        i += 1;
+    for (x, y) in a.iter().zip(b) {
+        d |= *x ^ *y;
     }
     d == 0
 }
@@ -62,13 +54,9 @@ pub fn same(a: &[u8], b: &[u8]) -> bool
 pub fn stretch(s: &[u8], start: usize, len: usize) -> &[u8]
     ensures { Stretch s.entry start len result }
 {
-    if s.len() <= start {
-        return &s[s.len()..];
-    }
-    if s.len() - start < len {
-        return &s[start..];
-    }
-    &s[start..start + len]
+    let from = start.min(s.len());
+    let to = from + len.min(s.len() - from);
+    &s[from..to]
 }
 
 // The same, for callers that lean on its bytes alone.
@@ -82,9 +70,5 @@ pub fn part(s: &[u8], start: usize, len: usize) -> &[u8]
 pub fn zero(out: &mut [u8])
     ensures { out.new ≡ replicate (length out.old) 0 }
 {
-    let mut i: usize = 0;
-    while i < out.len() {
-        out[i] = 0;
-        i += 1;
-    }
+    out.fill(0);
 }

@@ -8,13 +8,11 @@
 use mathlib.Core.Path.{◌≡◌, refl, ap, ap₂}
 use mathlib.Core.Bool.{Bool, true, false, ◌&&◌}
 use mathlib.Core.List.{List, [], ◌∷◌}
-use Prim.Native.Nat.{ℕ, ◌+◌, ◌≤◌, ◌<◌}
+use Prim.Native.Nat.{ℕ}
 use native.Mathlib.Omega.{arith}
-use native.Mathlib.Numerals.{add-one}
 use lib.Dec.{eqb}
 use lib.Bits.{bit_or, bit_xor, or_add_and, xor_add_and, and_le_l, and_le_r, xor_self, or_zero_l}
-use lib.ListN.{length, drop, get_or, drop_of_length-le}
-use lib.Seq.{drop-cons}
+use lib.ListN.{length}
 use borrow.Author.Tests.{eq-eqb, ne_eqb, eqb-true, eqb-false}
 use Rattle.words.proofs.Laws.Cases.{by_bool, and_true, and_true_r}
 use Rattle.slices.specs.Same.{same}
@@ -59,18 +57,15 @@ and_assoc true q r = refl
 and_assoc false q r = refl
 
 -- what was seen so far, with what is left to compare
-abbrev pub compared : ℕ → ℕ → List ℕ → List ℕ → Bool
-compared d i a b = eqb d 0 && same (drop i a) (drop i b)
+abbrev pub compared : ℕ → List ℕ → List ℕ → Bool
+compared d a b = eqb d 0 && same a b
 
-pub same_more : (d i : ℕ) (a b : List ℕ) → i < length a → length a ≡ length b
-    → compared (bit_or d (bit_xor (get_or a i 0) (get_or b i 0))) (i + 1) a b ≡ compared d i a b
+pub same_more : (d x y : ℕ) (a b : List ℕ) → compared (bit_or d (bit_xor x y)) a b ≡ compared d (x ∷ a) (y ∷ b)
 unfolding same
-same_more d i a b l e =
-    let m : i < length b = omega arith in
-    rw (eqb_or_xor, and_assoc, add-one, drop-cons a i 0, drop-cons b i 0)
+same_more d x y a b = rw (eqb_or_xor, and_assoc)
 
-pub same_all : (d i : ℕ) (a b : List ℕ) → length a ≡ length b → length a ≤ i → eqb d 0 ≡ compared d i a b
+pub same_all : (d : ℕ) (a b : List ℕ) → length a ≡ length b → length a ≡ 0 → eqb d 0 ≡ compared d a b
 unfolding same
-same_all d i a b e l =
-    let m : length b ≤ i = omega arith in
-    rw (drop_of_length-le a l, drop_of_length-le b m, and_true_r)
+same_all d [] [] e n = rw and_true_r
+same_all d [] (y ∷ b) e n = absurd (omega arith)
+same_all d (x ∷ a) b e n = absurd (omega arith)

@@ -1,46 +1,25 @@
 -- `slices::stretch` meets its contract. Assumes nothing.
-use mathlib.Core.Path.{◌≡◌, sym, ap, ◌∙◌}
-use mathlib.Core.List.{List, []}
-use Prim.Native.Nat.{ℕ, ◌+◌, ◌-◌, ◌≤◌}
+use mathlib.Core.Path.{◌≡◌, ap}
+use mathlib.Core.List.{List}
+use Prim.Native.Nat.{ℕ, ◌+◌, ◌-◌, min}
 use native.Mathlib.Omega.{arith}
-use lib.ListN.{length, take, drop, length-drop, drop_of_length-le}
-use lib.Seq.{take_all, take-nil}
+use lib.ListN.{length, take, drop, length-drop}
+use Rattle.std.proofs.lemmas.List.{drop_min, take_min}
 use Rattle.slices.specs.Stretch.{behind}
-use Rattle.slices.proofs.Laws.Parts.{part-tail}
 use Rattle.slices.proofs.stretch.Goals as goal
 
--- nothing stands behind the end
-take_drop_past : (n at : ℕ) (s : List ℕ) → length s ≤ at → take n (drop at s) ≡ []
-take_drop_past n at s h = rw (drop_of_length-le s h) (take-nil n)
-
--- a place behind another, by the number between them
-behind_is : (p : ℕ × ℕ) {m n : ℕ} → m ≡ n → behind m p ≡ behind n p
-behind_is p e = ap (λ (k : ℕ). behind k p) e
-
-pub returns-then-s-start : goal.returns-then-s-start
-returns-then-s-start c =
-    let a = c.args in
-    let s = a.s.now in
-    let l = length s in
-    record {
-      bytes =
-          take_drop_past (l - l) l s (omega arith)
-          ∙ sym (take_drop_past a.len a.start s c.if-s-start.true);
-      place = behind_is a.s.ref_ptr (omega arith);
-    }
-
-pub returns-then-s-start-2 : goal.returns-then-s-start-2
-returns-then-s-start-2 c =
-    let a = c.args in
-    let s = a.s.now in
-    let h : length (drop a.start s) ≤ a.len = simp length-drop (omega arith) in
-    record {
-      bytes = part-tail a.start s ∙ sym (take_all a.len (drop a.start s) h);
-      place = behind_is a.s.ref_ptr (omega arith);
-    }
+-- a part cut where the list ends
+part_min : (s : List ℕ) (start len : ℕ)
+    → take (min len (length s - min start (length s))) (drop (min start (length s)) s) ≡ take len (drop start s)
+part_min s start len = rw (← length-drop (min start (length s)) s, drop_min, take_min)
 
 pub returns : goal.returns
 returns c =
     let a = c.args in
-    let e : a.start + a.len - a.start ≡ a.len = omega arith in
-    record { bytes = rw e; place = behind_is a.s.ref_ptr (omega arith) }
+    let from = c.min-from.result in
+    let n = c.min.result in
+    let e : from + n - from ≡ n = omega arith in
+    record {
+      bytes = rw (e, c.min.ensures, c.min-from.ensures) (part_min a.s.now a.start a.len);
+      place = ap (λ (k : ℕ). behind k a.s.ref_ptr) c.min-from.ensures;
+    }
