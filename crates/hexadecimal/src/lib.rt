@@ -13,44 +13,36 @@ ghost use Rattle.slices.specs.Over.{over, laid};
 ghost use Rattle.hexadecimal.specs.Rfc4648 as rfc4648;
 
 // The digit of a number below sixteen, in upper case.
+#[tactic(auto, using(std::proofs::lemmas::Bool::Decides::nat_tests), unfolding(crate::specs::Rfc4648::digit))]
 fn digit(n: u8) -> u8
     requires { n < 16 }
     ensures { result ≡ rfc4648.digit n }
 {
-    if n < 10 {
-        return b'0' + n;
+    match n {
+        0..=9 => b'0' + n,
+        _ => b'A' + (n - 10),
     }
-    b'A' + (n - 10)
-}
-
-// Whether a character lies between two, both included.
-fn between(first: u8, last: u8, c: u8) -> bool
-    ensures { result ≡ rfc4648.between first last c }
-{
-    (first <= c) & (c <= last)
 }
 
 // Whether a character is a digit, in either case.
+#[tactic(auto, using(std::proofs::lemmas::Bool::Decides::nat_tests), unfolding(crate::specs::Rfc4648::is_digit))]
 pub fn is_digit(c: u8) -> bool
     ensures { result ≡ rfc4648.is_digit c }
 {
-    between(b'0', b'9', c) | between(b'A', b'F', c) | between(b'a', b'f', c)
+    c.is_ascii_hexdigit()
 }
 
 // The value of a digit, in either case; 0 of any other character.
+#[tactic(auto, using(std::proofs::lemmas::Bool::Decides::nat_tests), unfolding(crate::specs::Rfc4648::value))]
 pub fn value(c: u8) -> u8
     ensures { result ≡ rfc4648.value c }
 {
-    if between(b'0', b'9', c) {
-        return c - b'0';
+    match c {
+        b'0'..=b'9' => c - b'0',
+        b'A'..=b'F' => c - b'A' + 10,
+        b'a'..=b'f' => c - b'a' + 10,
+        _ => 0,
     }
-    if between(b'A', b'F', c) {
-        return c - b'A' + 10;
-    }
-    if between(b'a', b'f', c) {
-        return c - b'a' + 10;
-    }
-    0
 }
 
 // Whether every character is a digit.
@@ -58,10 +50,8 @@ pub fn all_digits(s: &[u8]) -> bool
     ensures { result ≡ rfc4648.all_digits s.now }
 {
     let mut all = true;
-    let mut i: usize = 0;
-    while i < s.len() {
-        all = all & is_digit(s[i]);
-        i += 1;
+    for c in s {
+        all &= is_digit(*c);
     }
     all
 }
@@ -70,13 +60,10 @@ pub fn all_digits(s: &[u8]) -> bool
 pub fn encode(out: &mut [u8], s: &[u8])
     ensures { out.new ≡ over (rfc4648.encode (take (length out.old / 2) s.now)) out.old }
 {
-    let n = slices::least(out.len() / 2, s.len());
-    let mut i: usize = 0;
-    while i < n {
+    for i in 0..s.len().min(out.len() / 2) {
         let b = s[i];
         out[2 * i] = digit(b / 16);
         out[2 * i + 1] = digit(b % 16);
-        i += 1;
     }
 }
 
@@ -84,12 +71,9 @@ pub fn encode(out: &mut [u8], s: &[u8])
 pub fn decode(out: &mut [u8], s: &[u8])
     ensures { out.new ≡ laid (rfc4648.decode s.now) out.old }
 {
-    let n = slices::least(out.len(), s.len() / 2);
-    let mut i: usize = 0;
-    while i < n {
+    for i in 0..out.len().min(s.len() / 2) {
         let high = s[2 * i];
         let low = s[2 * i + 1];
         out[i] = 16 * value(high) + value(low);
-        i += 1;
     }
 }

@@ -1,15 +1,14 @@
--- `hexadecimal::all_digits` meets its contract. The invariant: what was seen so far, with what is left to see, is the whole
--- test. Assumes nothing.
-use mathlib.Core.Path.{◌≡◌, refl, ◌∙◌}
+-- `hexadecimal::all_digits` meets its contract. Assumes nothing.
+use mathlib.Core.Path.{◌≡◌, ◌∙◌}
 use mathlib.Core.Bool.{Bool, ◌&&◌, and_assoc}
 use mathlib.Core.List.{List}
 use Prim.Native.Nat.{ℕ, ◌+◌, ◌≤◌, ◌<◌}
 use native.Mathlib.Numerals.{add-one}
+use native.Mathlib.Omega.{arith}
 use lib.ListN.{length, get_or, drop, drop_of_length-le}
 use lib.Seq.{drop-cons}
 use Rattle.words.proofs.Laws.Cases.{and_true_r}
 use Rattle.hexadecimal.specs.Rfc4648.{is_digit, every, all_digits}
-use borrow.Author.Rules.{rules}
 use Rattle.hexadecimal.proofs.all_digits.Goals as goal
 
 -- one character more
@@ -22,17 +21,12 @@ digits_all : (all : Bool) (i : ℕ) (s : List ℕ) → length s ≤ i → all �
 unfolding every
 digits_all all i s h = rw (drop_of_length-le s h, and_true_r)
 
-pub loop-i-init : goal.loop-i-init
-loop-i-init c = (search rules, refl)
-
-pub loop-i-preserved : goal.loop-i-preserved
-loop-i-preserved c =
-    let l = c.loop-i in
-    let a = c.args in
-    (search rules, digits_more l.all _ l.i a.s.now (search rules) c.is_digit-all.ensures ∙ l.invariant.1)
+pub loop-c-preserved : goal.loop-c-preserved
+loop-c-preserved c =
+    let l = c.loop-c in
+    digits_more l.all _ l.c-index c.args.s.now (omega arith) c.is_digit-all.ensures ∙ l.invariant
 
 pub returns : goal.returns
 returns c =
-    let l = c.loop-i in
-    let a = c.args in
-    digits_all l.all l.i a.s.now (search rules) ∙ l.invariant.1
+    let l = c.loop-c in
+    digits_all l.all l.c-index c.args.s.now (omega arith) ∙ l.invariant

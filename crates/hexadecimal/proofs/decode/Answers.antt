@@ -4,14 +4,13 @@ use mathlib.Core.Path.{◌≡◌, sym, ap, ap₂, ◌∙◌}
 use mathlib.Core.List.{List}
 use Prim.Native.Nat.{ℕ, ◌+◌, ◌*◌, ◌/◌, ◌<◌, min}
 use native.Mathlib.Omega.{arith}
-use lib.ListN.{length, get_or, take, set, length-set}
+use lib.ListN.{length, get_or, take, set}
 use Rattle.slices.specs.Over.{over}
 use Rattle.slices.proofs.Laws.Over.{over_nil, over_more}
-use Rattle.slices.proofs.Laws.Parts.{take_min}
+use Rattle.std.proofs.lemmas.List.{take_min}
 use Rattle.hexadecimal.specs.Rfc4648.{value, decode}
 use Rattle.hexadecimal.proofs.Laws.Digits.{value-lt}
 use Rattle.hexadecimal.proofs.Laws.Texts.{length-decode, get_or-decode}
-use borrow.Author.Rules.{rules}
 use Rattle.hexadecimal.proofs.decode.Goals as goal
 
 -- one byte more
@@ -24,7 +23,7 @@ decode_more s d i x y h k a b =
     ∙ over_more (decode s) d i (omega arith) k
 
 pub loop-i-init : goal.loop-i-init
-loop-i-init c = (search rules, (search rules, sym (over_nil c.args.out.now)))
+loop-i-init c = sym (over_nil c.args.out.now)
 
 -- a byte holds what two digits stand for
 pub overflow_mul-out : goal.overflow_mul-out
@@ -42,24 +41,16 @@ overflow_add-out c =
 pub loop-i-preserved : goal.loop-i-preserved
 loop-i-preserved c =
     let l = c.loop-i in
-    let a = c.args in
-    let s = a.s.now in
-    let d = a.out.now in (
-      search rules,
-      (
-        simp length-set (search rules),
-        rw l.invariant.1.1
-            (decode_more s d l.i _ _ (omega arith) (omega arith) c.value.ensures c.value-in-loop-i.ensures),
-      ),
-    )
+    rw l.invariant
+    (decode_more c.args.s.now c.args.out.now l.i _ _ (omega arith) (omega arith) c.value.ensures
+    c.value-in-loop-i.ensures)
 
 pub returns : goal.returns
 returns c =
     let l = c.loop-i in
-    let a = c.args in
-    let s = a.s.now in
-    let d = a.out.now in
+    let s = c.args.s.now in
+    let d = c.args.out.now in
     let k = length-decode s in
     let e : l.i ≡ min (length d) (length (decode s)) = omega arith in
-    l.invariant.1.1
+    l.invariant
     ∙ ap (λ (w : List ℕ). over w d) (ap (λ (n : ℕ). take n (decode s)) e ∙ take_min (length d) (decode s))

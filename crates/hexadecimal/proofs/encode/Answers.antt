@@ -4,13 +4,12 @@ use mathlib.Core.Path.{◌≡◌, sym, ap, ap₂, ◌∙◌}
 use mathlib.Core.List.{List}
 use Prim.Native.Nat.{ℕ, ◌+◌, ◌*◌, ◌/◌, ◌%◌, ◌≤◌, ◌<◌}
 use native.Mathlib.Omega.{arith}
-use lib.ListN.{length, get_or, take, set, length-take, length-set}
+use lib.ListN.{length, get_or, take, set, length-take}
 use lib.Seq.{take_all, get_or-take}
 use Rattle.slices.specs.Over.{over}
 use Rattle.slices.proofs.Laws.Over.{over_nil, over_more}
 use Rattle.hexadecimal.specs.Rfc4648.{digit, encode}
 use Rattle.hexadecimal.proofs.Laws.Texts.{length-encode, get_or_encode_high, get_or_encode_low}
-use borrow.Author.Rules.{rules}
 use Rattle.hexadecimal.proofs.encode.Invariants.{fitting}
 use Rattle.hexadecimal.proofs.encode.Goals as goal
 
@@ -31,40 +30,26 @@ encode_more s d i x y h room a b =
     ∙ ap (λ (k : ℕ). over (take k (encode s)) d) e
 
 pub loop-i-init : goal.loop-i-init
-loop-i-init c = (search rules, (search rules, sym (over_nil c.args.out.now)))
-
-pub bounds-out-i-in-loop-i : goal.bounds-out-i-in-loop-i
-bounds-out-i-in-loop-i c = simp length-set (search rules)
+loop-i-init c = sym (over_nil c.args.out.now)
 
 pub loop-i-preserved : goal.loop-i-preserved
 loop-i-preserved c =
     let l = c.loop-i in
-    let a = c.args in
-    let s = a.s.now in
-    let d = a.out.now in
+    let s = c.args.s.now in
+    let d = c.args.out.now in
     let t = length-take (length d / 2) s in
     let h : l.i < length (fitting d s) = omega arith in
-    let g = get_or-take (length d / 2) s l.i 0 (omega arith) in (
-      search rules,
-      (
-        simp length-set (search rules),
-        rw l.invariant.1.1
-            (encode_more (fitting d s) d l.i _ _ h (omega arith)
-            (c.digit.ensures ∙ ap (λ (b : ℕ). digit (b / 16)) (sym g))
-            (c.digit-in-loop-i.ensures ∙ ap (λ (b : ℕ). digit (b % 16)) (sym g))),
-      ),
-    )
-
-pub shape_of-out : goal.shape_of-out
-shape_of-out c = search rules
+    let g = get_or-take (length d / 2) s l.i 0 (omega arith) in
+    rw l.invariant
+    (encode_more (fitting d s) d l.i _ _ h (omega arith)
+    (c.digit.ensures ∙ ap (λ (b : ℕ). digit (b / 16)) (sym g))
+    (c.digit-in-loop-i.ensures ∙ ap (λ (b : ℕ). digit (b % 16)) (sym g)))
 
 pub returns : goal.returns
 returns c =
     let l = c.loop-i in
-    let a = c.args in
-    let s = a.s.now in
-    let d = a.out.now in
+    let s = c.args.s.now in
+    let d = c.args.out.now in
     let t = length-take (length d / 2) s in
     let e = length-encode (fitting d s) in
-    l.invariant.1.1
-    ∙ ap (λ (w : List ℕ). over w d) (take_all (2 * l.i) (encode (fitting d s)) (omega arith))
+    l.invariant ∙ ap (λ (w : List ℕ). over w d) (take_all (2 * l.i) (encode (fitting d s)) (omega arith))

@@ -2,7 +2,7 @@
 -- Assumes nothing.
 use mathlib.Core.Path.{◌≡◌}
 use mathlib.Core.List.{List}
-use Prim.Native.Nat.{ℕ, ◌*◌, ◌-◌, ◌/◌, ◌≤◌}
+use Prim.Native.Nat.{ℕ, ◌*◌, ◌/◌}
 use lib.ListN.{length, take}
 use Rattle.slices.specs.Over.{over}
 use Rattle.hexadecimal.specs.Rfc4648.{encode}
@@ -14,7 +14,4 @@ fitting d s = take (length d / 2) s
 
 abbrev pub invariant-loop-i : goal.invariant-loop-i
 invariant-loop-i l =
-    (l.i ≤ l.n) × ((length l.out ≡ length l.initial.out) × (l.out ≡ over (take (2 * l.i) (encode (fitting l.initial.out l.s))) l.initial.out))
-
-abbrev pub decreases-loop-i : goal.decreases-loop-i
-decreases-loop-i l = l.n - l.i
+    l.out ≡ over (take (2 * l.i) (encode (fitting l.initial.out l.s))) l.initial.out
