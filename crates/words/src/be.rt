@@ -8,7 +8,7 @@ use crate::byte_at;
 pub fn u32_of(a: u8, b: u8, c: u8, d: u8) -> u32
     ensures { result ≡ ((a * 256 + b) * 256 + c) * 256 + d }
 {
-    (a as u32) * 0x100_0000 + (b as u32) * 0x1_0000 + (c as u32) * 0x100 + (d as u32)
+    u32::from_be_bytes([a, b, c, d])
 }
 
 // The number of the four bytes at a place.
@@ -43,26 +43,12 @@ pub fn u64_at(s: &[u8], at: usize) -> u64
 pub fn bytes32(x: u32) -> [u8; 4]
     ensures { result ≡ endian.be_bytes 4 x }
 {
-    [
-        (x / 0x100_0000 % 256) as u8,
-        (x / 0x1_0000 % 256) as u8,
-        (x / 0x100 % 256) as u8,
-        (x % 256) as u8,
-    ]
+    x.to_be_bytes()
 }
 
 // The eight bytes of a number.
 pub fn bytes64(x: u64) -> [u8; 8]
     ensures { result ≡ endian.be_bytes 8 x }
 {
-    [
-        (x / 0x100_0000_0000_0000 % 256) as u8,
-        (x / 0x1_0000_0000_0000 % 256) as u8,
-        (x / 0x100_0000_0000 % 256) as u8,
-        (x / 0x1_0000_0000 % 256) as u8,
-        (x / 0x100_0000 % 256) as u8,
-        (x / 0x1_0000 % 256) as u8,
-        (x / 0x100 % 256) as u8,
-        (x % 256) as u8,
-    ]
+    x.to_be_bytes()
 }

@@ -39,7 +39,7 @@ impl Size {
 pub fn u32_of(a: u8, b: u8, c: u8, d: u8) -> u32
     ensures { result ≡ a + 256 * (b + 256 * (c + 256 * d)) }
 {
-    (a as u32) + (b as u32) * 0x100 + (c as u32) * 0x1_0000 + (d as u32) * 0x100_0000
+    u32::from_le_bytes([a, b, c, d])
 }
 
 // The number of the four bytes at a place.
@@ -86,26 +86,12 @@ pub fn size_at(s: &[u8], at: usize) -> Size
 pub fn bytes32(x: u32) -> [u8; 4]
     ensures { result ≡ endian.le_bytes 4 x }
 {
-    [
-        (x % 256) as u8,
-        (x / 0x100 % 256) as u8,
-        (x / 0x1_0000 % 256) as u8,
-        (x / 0x100_0000 % 256) as u8,
-    ]
+    x.to_le_bytes()
 }
 
 // The eight bytes of a number.
 pub fn bytes64(x: u64) -> [u8; 8]
     ensures { result ≡ endian.le_bytes 8 x }
 {
-    [
-        (x % 256) as u8,
-        (x / 0x100 % 256) as u8,
-        (x / 0x1_0000 % 256) as u8,
-        (x / 0x100_0000 % 256) as u8,
-        (x / 0x1_0000_0000 % 256) as u8,
-        (x / 0x100_0000_0000 % 256) as u8,
-        (x / 0x1_0000_0000_0000 % 256) as u8,
-        (x / 0x100_0000_0000_0000 % 256) as u8,
-    ]
+    x.to_le_bytes()
 }

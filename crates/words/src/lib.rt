@@ -14,22 +14,19 @@ pub mod le;
 pub fn plus32(x: u32, y: u32) -> u32
     ensures { result ≡ word.plus 32 x y }
 {
-    std::num::wrapping_add_u32(x, y)
+    u32::wrapping_add(x, y)
 }
 
 // The sum of two words, modulo 2^64.
 pub fn plus64(x: u64, y: u64) -> u64
     ensures { result ≡ word.plus 64 x y }
 {
-    std::num::wrapping_add_u64(x, y)
+    u64::wrapping_add(x, y)
 }
 
 // The byte at a place of a slice, zero behind its end.
 pub fn byte_at(s: &[u8], at: usize) -> u8
     ensures { result ≡ slice_index s.now at }
 {
-    if at < s.len() {
-        return s[at];
-    }
-    0
+    s.get(at).copied().unwrap_or(0)
 }

@@ -5,4 +5,4 @@ use Rattle.words.proofs.be.bytes32.Goals as goal
 
 pub returns : goal.returns
 unfolding be_bytes
-returns c = rw div-one
+returns c = rw (div-one, c.to_be_bytes.ensures)

@@ -7,4 +7,4 @@ pub returns : goal.returns
 unfolding le_bytes
 returns c =
     let x = c.args.x in
-    rw (shr-shr x 8 8, shr-shr x 16 8)
+    rw (shr-shr x 8 8, shr-shr x 16 8, c.to_le_bytes.ensures)
