@@ -36,12 +36,11 @@ fn mix_entry(s: u8) -> u32
 pub fn te() -> [u32; 256]
     ensures { result ≡ tables.te }
 {
+    // Not `SBOX.map(..)`: its code takes some 15,000 instructions, the loop's 1,000.
     let s = SBOX;
     let mut t = [0u32; 256];
-    let mut i: usize = 0;
-    while i < 256 {
+    for i in 0..256 {
         t[i] = mix_entry(s[i]);
-        i += 1;
     }
     t
 }
@@ -52,11 +51,9 @@ pub fn inverse() -> [u8; 256]
 {
     let s = SBOX;
     let mut t = [0u8; 256];
-    let mut i: usize = 0;
-    while i < 256 {
+    for i in 0..256 {
         let y = s[i] as usize;
         t[y] = i as u8;
-        i += 1;
     }
     t
 }
@@ -78,10 +75,8 @@ pub fn td(inverse: &[u8; 256]) -> [u32; 256]
     ensures { result ≡ tables.mixed inverse.now }
 {
     let mut t = [0u32; 256];
-    let mut i: usize = 0;
-    while i < 256 {
+    for i in 0..256 {
         t[i] = inv_mix_entry(inverse[i]);
-        i += 1;
     }
     t
 }

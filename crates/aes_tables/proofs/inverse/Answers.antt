@@ -5,12 +5,11 @@ use native.Mathlib.Omega.{arith}
 use lib.ListN.{length-replicate}
 use Rattle.gf256.proofs.Laws.Sbox.{get_or-sbox_table, sbox-lt}
 use Rattle.aes_tables.proofs.Laws.Entries.{inverse_more, inverse_all}
-use borrow.Author.Rules.{rules}
 use Rattle.aes_tables.proofs.inverse.Goals as goal
 
 pub loop-i-init : goal.loop-i-init
 loop-i-init c =
-    (search rules, record { long = length-replicate {A = ℕ} 256 0; placed = λ k m. absurd (let z : ⊥ = omega arith in z) })
+    record { long = length-replicate {A = ℕ} 256 0; placed = λ k m. absurd (let z : ⊥ = omega arith in z) }
 
 pub overflow_cast-y : goal.overflow_cast-y
 overflow_cast-y c =
@@ -28,10 +27,10 @@ pub loop-i-preserved : goal.loop-i-preserved
 loop-i-preserved c =
     let l = c.loop-i in
     let h : l.i < 256 = omega arith in
-    (search rules, inverse_more l.t l.i _ h (get_or-sbox_table l.i h) l.invariant.1)
+    inverse_more l.t l.i _ h (get_or-sbox_table l.i h) l.invariant
 
 pub returns : goal.returns
 returns c =
     let l = c.loop-i in
     let e : l.i ≡ 256 = omega arith in
-    inverse_all l.t l.i e l.invariant.1
+    inverse_all l.t l.i e l.invariant

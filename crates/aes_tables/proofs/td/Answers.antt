@@ -11,18 +11,15 @@ use Rattle.aes_tables.proofs.td.Goals as goal
 
 pub loop-i-init : goal.loop-i-init
 unfolding tabulate
-loop-i-init c = (search rules, (length-replicate {A = ℕ} 256 0, refl))
+loop-i-init c = (length-replicate {A = ℕ} 256 0, refl)
 
 pub loop-i-preserved : goal.loop-i-preserved
 loop-i-preserved c =
     let l = c.loop-i in
     let x = c.args.inverse.now in
     let m : l.i < length l.t = omega arith in (
-      search rules,
-      (
-        simp length-set (search rules),
-        tabulate_more (λ k. inv_mix_entry (get_or x k 0)) l.t l.i c.inv_mix_entry.result m l.invariant.1.1 c.inv_mix_entry.ensures,
-      ),
+      simp length-set (search rules),
+      tabulate_more (λ k. inv_mix_entry (get_or x k 0)) l.t l.i c.inv_mix_entry.result m l.invariant.1 c.inv_mix_entry.ensures,
     )
 
 pub returns : goal.returns
@@ -31,4 +28,4 @@ returns c =
     let l = c.loop-i in
     let x = c.args.inverse.now in
     let e : l.i ≡ 256 = omega arith in
-    tabulate_all 256 (λ k. inv_mix_entry (get_or x k 0)) l.t l.i e l.invariant.1.0 l.invariant.1.1
+    tabulate_all 256 (λ k. inv_mix_entry (get_or x k 0)) l.t l.i e l.invariant.0 l.invariant.1

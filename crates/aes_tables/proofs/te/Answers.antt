@@ -13,19 +13,16 @@ use Rattle.aes_tables.proofs.te.Goals as goal
 
 pub loop-i-init : goal.loop-i-init
 unfolding tabulate
-loop-i-init c = (search rules, (length-replicate {A = ℕ} 256 0, refl))
+loop-i-init c = (length-replicate {A = ℕ} 256 0, refl)
 
 pub loop-i-preserved : goal.loop-i-preserved
 loop-i-preserved c =
     let l = c.loop-i in
     let h : l.i < 256 = omega arith in
     let m : l.i < length l.t = omega arith in (
-      search rules,
-      (
-        simp length-set (search rules),
-        tabulate_more (λ x. mix_entry (sbox x)) l.t l.i c.mix_entry.result m l.invariant.1.1
-            (c.mix_entry.ensures ∙ ap mix_entry (get_or-sbox_table l.i h)),
-      ),
+      simp length-set (search rules),
+      tabulate_more (λ x. mix_entry (sbox x)) l.t l.i c.mix_entry.result m l.invariant.1
+          (c.mix_entry.ensures ∙ ap mix_entry (get_or-sbox_table l.i h)),
     )
 
 pub returns : goal.returns
@@ -33,4 +30,4 @@ unfolding te
 returns c =
     let l = c.loop-i in
     let e : l.i ≡ 256 = omega arith in
-    tabulate_all 256 (λ x. mix_entry (sbox x)) l.t l.i e l.invariant.1.0 l.invariant.1.1
+    tabulate_all 256 (λ x. mix_entry (sbox x)) l.t l.i e l.invariant.0 l.invariant.1
