@@ -14,6 +14,7 @@ ghost use Rattle.words.specs.Endian as endian;
 ghost use Rattle.words.specs.Xor.{xors};
 ghost use Rattle.stream.specs.Words.{sum, serialize};
 
+use words::le::bytes32;
 use words::{plus32, plus64};
 
 // The counter of a stream's first block.
@@ -43,10 +44,7 @@ fn put_word(out: &mut [u8; 64], at: usize, x: u32)
     requires { at + 4 ≤ 64 }
     ensures { out.new ≡ sets out.old at (endian.le_bytes 4 x) }
 {
-    out[at] = (x % 256) as u8;
-    out[at + 1] = (x / 0x100 % 256) as u8;
-    out[at + 2] = (x / 0x1_0000 % 256) as u8;
-    out[at + 3] = (x / 0x100_0000 % 256) as u8;
+    out[at..at + 4].copy_from_slice(&bytes32(x));
 }
 
 // The sums of two states' words, serialized.
@@ -54,25 +52,10 @@ pub fn serialize_sum(s: [u32; 16], t: [u32; 16]) -> [u8; 64]
     ensures { result ≡ serialize (sum s t) }
 {
     let mut out = [0u8; 64];
-    let mut i: usize = 0;
-    while i < 16 {
+    for i in 0..16 {
         put_word(&mut out, i * 4, plus32(s[i], t[i]));
-        i += 1;
     }
     out
-}
-
-// How many bytes a block covers from a place in it on, of n bytes.
-fn covered(n: usize, from: usize) -> usize
-    ensures { result ≡ min n (64 - from) }
-{
-    if 64 <= from {
-        return 0;
-    }
-    if n < 64 - from {
-        return n;
-    }
-    64 - from
 }
 
 // Applies a block, from a place in it on, to the front of `out`, and says to how many bytes.
@@ -80,11 +63,9 @@ pub fn xor_block(out: &mut [u8], block: [u8; 64], from: usize) -> usize
     ensures value { result ≡ min (length out.old) (64 - from) }
     ensures out_after { out.new ≡ over (xors out.old (drop from block)) out.old }
 {
-    let n = covered(out.len(), from);
-    let mut i: usize = 0;
-    while i < n {
-        out[i] = out[i] ^ block[from + i];
-        i += 1;
+    let n = out.len().min(64usize.saturating_sub(from));
+    for i in 0..n {
+        out[i] ^= block[from + i];
     }
     n
 }
