@@ -21,50 +21,18 @@ pub(crate) struct Four {
     pub d: u32,
 }
 
-// x ^ y, rotated left by 16 places.
-fn xor_rotl16(x: u32, y: u32) -> u32
-    ensures { result ≡ word.rotl 32 16 (bit_xor x y) }
-{
-    let z = x ^ y;
-    (z << 16) | (z >> 16)
-}
-
-// x ^ y, rotated left by 12 places.
-fn xor_rotl12(x: u32, y: u32) -> u32
-    ensures { result ≡ word.rotl 32 12 (bit_xor x y) }
-{
-    let z = x ^ y;
-    (z << 12) | (z >> 20)
-}
-
-// x ^ y, rotated left by 8 places.
-fn xor_rotl8(x: u32, y: u32) -> u32
-    ensures { result ≡ word.rotl 32 8 (bit_xor x y) }
-{
-    let z = x ^ y;
-    (z << 8) | (z >> 24)
-}
-
-// x ^ y, rotated left by 7 places.
-fn xor_rotl7(x: u32, y: u32) -> u32
-    ensures { result ≡ word.rotl 32 7 (bit_xor x y) }
-{
-    let z = x ^ y;
-    (z << 7) | (z >> 25)
-}
-
 // 2.1: a quarter round on four words.
 fn quarter_round(a: u32, b: u32, c: u32, d: u32) -> Four
     ensures { four result ≡ rfc8439.quarter_round (record { a = a; b = b; c = c; d = d }) }
 {
     let a1 = plus32(a, b);
-    let d1 = xor_rotl16(d, a1);
+    let d1 = (d ^ a1).rotate_left(16);
     let c1 = plus32(c, d1);
-    let b1 = xor_rotl12(b, c1);
+    let b1 = (b ^ c1).rotate_left(12);
     let a2 = plus32(a1, b1);
-    let d2 = xor_rotl8(d1, a2);
+    let d2 = (d1 ^ a2).rotate_left(8);
     let c2 = plus32(c1, d2);
-    let b2 = xor_rotl7(b1, c2);
+    let b2 = (b1 ^ c2).rotate_left(7);
     Four {
         a: a2,
         b: b2,
@@ -105,10 +73,8 @@ fn rounds(s: &mut [u32; 16])
     requires { length s.old ≡ 16 }
     ensures { s.new ≡ rfc8439.inner_blocks 10 s.old }
 {
-    let mut i: usize = 0;
-    while i < 10 {
+    for _ in 0..10u32 {
         inner_block(s);
-        i += 1;
     }
 }
 

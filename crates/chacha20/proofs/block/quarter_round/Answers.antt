@@ -6,5 +6,5 @@ pub returns : goal.returns
 returns c =
     let a = c.args in
     quarter_round_is a.a a.b a.c a.d
-    c.plus32-a1.ensures c.xor_rotl16-d1.ensures c.plus32-c1.ensures c.xor_rotl12-b1.ensures
-    c.plus32-a2.ensures c.xor_rotl8-d2.ensures c.plus32-c2.ensures c.xor_rotl7-b2.ensures
+    c.plus32-a1.ensures c.rotate_left-d1.ensures c.plus32-c1.ensures c.rotate_left-b1.ensures
+    c.plus32-a2.ensures c.rotate_left-d2.ensures c.plus32-c2.ensures c.rotate_left-b2.ensures
