@@ -22,42 +22,14 @@ pub(crate) struct Four {
     pub y3: u32,
 }
 
-// x ^ y, y rotated left by 7 places.
-fn xor_rotl7(x: u32, y: u32) -> u32
-    ensures { result ≡ bit_xor x (word.rotl 32 7 y) }
-{
-    x ^ ((y << 7) | (y >> 25))
-}
-
-// x ^ y, y rotated left by 9 places.
-fn xor_rotl9(x: u32, y: u32) -> u32
-    ensures { result ≡ bit_xor x (word.rotl 32 9 y) }
-{
-    x ^ ((y << 9) | (y >> 23))
-}
-
-// x ^ y, y rotated left by 13 places.
-fn xor_rotl13(x: u32, y: u32) -> u32
-    ensures { result ≡ bit_xor x (word.rotl 32 13 y) }
-{
-    x ^ ((y << 13) | (y >> 19))
-}
-
-// x ^ y, y rotated left by 18 places.
-fn xor_rotl18(x: u32, y: u32) -> u32
-    ensures { result ≡ bit_xor x (word.rotl 32 18 y) }
-{
-    x ^ ((y << 18) | (y >> 14))
-}
-
 // 3: a quarterround on four words.
 fn quarterround(y0: u32, y1: u32, y2: u32, y3: u32) -> Four
     ensures { state.four result ≡ salsa20.quarterround (record { y0 = y0; y1 = y1; y2 = y2; y3 = y3 }) }
 {
-    let z1 = xor_rotl7(y1, plus32(y0, y3));
-    let z2 = xor_rotl9(y2, plus32(z1, y0));
-    let z3 = xor_rotl13(y3, plus32(z2, z1));
-    let z0 = xor_rotl18(y0, plus32(z3, z2));
+    let z1 = y1 ^ plus32(y0, y3).rotate_left(7);
+    let z2 = y2 ^ plus32(z1, y0).rotate_left(9);
+    let z3 = y3 ^ plus32(z2, z1).rotate_left(13);
+    let z0 = y0 ^ plus32(z3, z2).rotate_left(18);
     Four {
         y0: z0,
         y1: z1,
@@ -98,10 +70,8 @@ fn rounds(s: &mut [u32; 16])
     requires { length s.old ≡ 16 }
     ensures { s.new ≡ salsa20.doublerounds 10 s.old }
 {
-    let mut i: usize = 0;
-    while i < 10 {
+    for _ in 0..10u32 {
         doubleround(s);
-        i += 1;
     }
 }
 
