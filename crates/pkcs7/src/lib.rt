@@ -78,10 +78,8 @@ pub fn check(piece: [u8; 16]) -> Padding
 {
     let p = piece[15];
     let mut d: u8 = 0;
-    let mut i: usize = 16;
-    while 0 < i {
-        i -= 1;
-        d = d | wrong_bits(i, p, piece[i]);
+    for i in (0..16).rev() {
+        d |= wrong_bits(i, p, piece[i]);
     }
     if p == 0 {
         return Padding::Wrong;
