@@ -28,23 +28,12 @@ pub fn load(s: [u8; 16]) -> Columns
 pub fn store(x: Columns) -> [u8; 16]
     ensures { result ≡ columns x }
 {
+    let [a0, a1, a2, a3] = x.a.to_be_bytes();
+    let [b0, b1, b2, b3] = x.b.to_be_bytes();
+    let [c0, c1, c2, c3] = x.c.to_be_bytes();
+    let [d0, d1, d2, d3] = x.d.to_be_bytes();
     [
-        (x.a / 0x100_0000 % 256) as u8,
-        (x.a / 0x1_0000 % 256) as u8,
-        (x.a / 0x100 % 256) as u8,
-        (x.a % 256) as u8,
-        (x.b / 0x100_0000 % 256) as u8,
-        (x.b / 0x1_0000 % 256) as u8,
-        (x.b / 0x100 % 256) as u8,
-        (x.b % 256) as u8,
-        (x.c / 0x100_0000 % 256) as u8,
-        (x.c / 0x1_0000 % 256) as u8,
-        (x.c / 0x100 % 256) as u8,
-        (x.c % 256) as u8,
-        (x.d / 0x100_0000 % 256) as u8,
-        (x.d / 0x1_0000 % 256) as u8,
-        (x.d / 0x100 % 256) as u8,
-        (x.d % 256) as u8,
+        a0, a1, a2, a3, b0, b1, b2, b3, c0, c1, c2, c3, d0, d1, d2, d3,
     ]
 }
 

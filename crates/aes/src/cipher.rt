@@ -56,9 +56,7 @@ pub fn encrypt(te: &[u32; 256], w: &[u32; 60], s: Columns) -> Columns
     ensures { columns result ≡ tabled.cipher_by te.now (columns s) w.now }
 {
     let mut x = add_round_key(w, 0, s);
-    let mut i: usize = 0;
-    while i < 13 {
-        i += 1;
+    for i in 1..14 {
         x = round(te, w, i, x);
     }
     final_round(te, w, x)
@@ -69,10 +67,8 @@ pub(crate) fn encrypt_repeated(te: &[u32; 256], w: &[u32; 60], s: Columns, n: u3
     ensures { columns result ≡ repeated (λ s. tabled.cipher_by te.now s w.now) n (columns s) }
 {
     let mut x = s;
-    let mut i: u32 = 0;
-    while i < n {
+    for _ in 0..n {
         x = encrypt(te, w, x);
-        i += 1;
     }
     x
 }

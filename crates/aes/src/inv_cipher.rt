@@ -43,10 +43,8 @@ pub fn decrypt(inverse: &[u8; 256], td: &[u32; 256], v: &[u32; 60], s: Columns) 
     ensures { columns result ≡ tabled.eq_inv_cipher_by inverse.now td.now (columns s) v.now }
 {
     let mut x = add_round_key(v, 14, s);
-    let mut i: usize = 13;
-    while 0 < i {
+    for i in (1..14).rev() {
         x = inv_round(td, v, i, x);
-        i -= 1;
     }
     inv_final_round(inverse, v, x)
 }

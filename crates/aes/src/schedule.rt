@@ -50,10 +50,8 @@ fn key_words(key: [u8; 32]) -> [u32; 60]
     ensures { take 8 result ≡ fips197.expanded key 0 }
 {
     let mut w = [0u32; 60];
-    let mut i: usize = 0;
-    while i < 8 {
+    for i in 0..8 {
         w[i] = words::be::u32_at(&key, 4 * i);
-        i += 1;
     }
     w
 }
@@ -63,10 +61,8 @@ pub(crate) fn expand(te: &[u32; 256], key: [u8; 32]) -> [u32; 60]
     ensures { te.now ≡ tables.te → result ≡ fips197.key_expansion key }
 {
     let mut w = key_words(key);
-    let mut i: usize = 8;
-    while i < 60 {
+    for i in 8..60 {
         w[i] = w[i - 8] ^ temp(te, i, w[i - 1]);
-        i += 1;
     }
     w
 }
@@ -80,16 +76,14 @@ fn inv_mix_word(te: &[u32; 256], td: &[u32; 256], w: u32) -> u32
 }
 
 // Word i of the dual key schedule.
+#[tactic(auto, using(std::proofs::lemmas::Bool::Decides::nat_tests), unfolding(crate::specs::Tabled::dual_word_by))]
 fn dual_word(te: &[u32; 256], td: &[u32; 256], i: usize, w: u32) -> u32
     ensures { result ≡ tabled.dual_word_by te.now td.now i w }
 {
-    if i < 4 {
-        return w;
+    match i {
+        4..=55 => inv_mix_word(te, td, w),
+        _ => w,
     }
-    if i < 56 {
-        return inv_mix_word(te, td, w);
-    }
-    w
 }
 
 // The dual key schedule by the tables lent: FIPS 197's, where those are te and td.
@@ -97,10 +91,8 @@ pub fn dual(te: &[u32; 256], td: &[u32; 256], w: [u32; 60]) -> [u32; 60]
     ensures { result ≡ tabled.dual_by te.now td.now w }
 {
     let mut v = [0u32; 60];
-    let mut i: usize = 0;
-    while i < 60 {
+    for i in 0..60 {
         v[i] = dual_word(te, td, i, w[i]);
-        i += 1;
     }
     v
 }

@@ -10,7 +10,6 @@ use mathlib.Core.Path.{◌≡◌, ◌∙◌, ap}
 use mathlib.Core.List.{List}
 use Prim.Native.Nat.{ℕ, suc, ◌+◌, ◌*◌, ◌-◌, ◌≤◌, ◌<◌}
 use native.Mathlib.Nat.{add-zero}
-use native.Mathlib.Numerals.{add-one}
 use native.Mathlib.Omega.{arith}
 use lib.ListN.{get_or}
 use Rattle.fips197.specs.Fips197.{shift_rows, inv_shift_rows}
@@ -45,16 +44,19 @@ pub inv_sub_by_is : (u : List ℕ) (a b c d e f g h : ℕ) → e ≡ inv_sub_col
 unfolding inv_sub_column
 inv_sub_by_is u a b c d e f g h p₀ p₁ p₂ p₃ = rw (p₀, p₁, p₂, p₃) (columns_is (bytes_own _) (bytes_own _) (bytes_own _) (bytes_own _))
 
-pub rounds_by_more : (t s w : List ℕ) (i : ℕ) (x y : List ℕ) → x ≡ rounds_by t s w i → y ≡ round_by t x w (i + 1)
-    → y ≡ rounds_by t s w (i + 1)
+pub rounds_by_more : (t s w : List ℕ) (i : ℕ) (x y : List ℕ) → 1 ≤ i → x ≡ rounds_by t s w (i - 1)
+    → y ≡ round_by t x w i → y ≡ rounds_by t s w (i + 1 - 1)
 unfolding rounds_by
-rounds_by_more t s w i x y p q = rw add-one ((rw add-one at q) ∙ ap (λ (z : List ℕ). round_by t z w (suc i)) p)
+rounds_by_more t s w i x y h p q =
+    let n : i + 1 - 1 ≡ suc (i - 1) = omega arith in
+    let m : i ≡ suc (i - 1) = omega arith in
+    rw n (q ∙ ap (λ (z : List ℕ). round_by t z w i) p ∙ ap (round_by t (rounds_by t s w (i - 1)) w) m)
 
--- the rounds count down: i are left
-pub eq_inv_rounds_by_more : (t s v : List ℕ) (i : ℕ) (x y : List ℕ) → 0 < i → i ≤ 13 → x ≡ eq_inv_rounds_by t s v (13 - i)
-    → y ≡ eq_inv_round_by t x v i → y ≡ eq_inv_rounds_by t s v (13 - (i - 1))
+-- the rounds count down: those from i on are done
+pub eq_inv_rounds_by_more : (t s v : List ℕ) (i : ℕ) (x y : List ℕ) → 1 < i → i ≤ 14 → x ≡ eq_inv_rounds_by t s v (14 - i)
+    → y ≡ eq_inv_round_by t x v (i - 1) → y ≡ eq_inv_rounds_by t s v (14 - (i - 1))
 unfolding eq_inv_rounds_by
 eq_inv_rounds_by_more t s v i x y h l p q =
-    let n : 13 - (i - 1) ≡ suc (13 - i) = omega arith in
-    let m : i ≡ 13 - (13 - i) = omega arith in
-    rw n (q ∙ ap (λ (z : List ℕ). eq_inv_round_by t z v i) p ∙ ap (eq_inv_round_by t (eq_inv_rounds_by t s v (13 - i)) v) m)
+    let n : 14 - (i - 1) ≡ suc (14 - i) = omega arith in
+    let m : i - 1 ≡ 13 - (14 - i) = omega arith in
+    rw n (q ∙ ap (λ (z : List ℕ). eq_inv_round_by t z v (i - 1)) p ∙ ap (eq_inv_round_by t (eq_inv_rounds_by t s v (14 - i)) v) m)

@@ -1,4 +1,4 @@
--- `aes::inv_cipher::decrypt` meets its contract. The invariant: i rounds are left. Assumes nothing.
+-- `aes::inv_cipher::decrypt` meets its contract. The invariant: the rounds from i on are done. Assumes nothing.
 use mathlib.Core.Path.{◌≡◌, refl, ap, ◌∙◌}
 use mathlib.Core.List.{List}
 use Prim.Native.Nat.{ℕ, ◌-◌}
@@ -15,8 +15,10 @@ loop-i-init c = (search rules, refl)
 
 pub loop-i-preserved : goal.loop-i-preserved
 loop-i-preserved c =
-    let l = c.loop-i in
-    (search rules, eq_inv_rounds_by_more _ _ _ l.i (columns l.x) _ (search rules) (search rules) l.invariant.1 c.inv_round-x.ensures)
+    let l = c.loop-i in (
+      omega arith,
+      eq_inv_rounds_by_more _ _ _ l.i (columns l.x) _ (omega arith) (omega arith) l.invariant.1 c.inv_round-x.ensures,
+    )
 
 pub returns : goal.returns
 unfolding eq_inv_cipher_by
@@ -25,7 +27,7 @@ returns c =
     let a = c.args in
     let t = a.td.now in
     let v = a.v.now in
-    let n : 13 - l.i ≡ 13 = omega arith in
+    let n : 14 - l.i ≡ 13 = omega arith in
     c.inv_final_round.ensures
     ∙ ap (λ (x : List ℕ). eq_inv_final_round_by a.inverse.now x v)
     (l.invariant.1 ∙ ap (eq_inv_rounds_by t _ v) n

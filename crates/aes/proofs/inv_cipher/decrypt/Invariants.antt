@@ -1,4 +1,4 @@
--- `aes::inv_cipher::decrypt` meets its contract. The invariant: i rounds are left. Assumes nothing.
+-- `aes::inv_cipher::decrypt` meets its contract. The invariant: the rounds from i on are done. Assumes nothing.
 use mathlib.Core.Path.{◌≡◌}
 use Prim.Native.Nat.{◌-◌, ◌≤◌}
 use Rattle.aes.specs.Columns.{columns}
@@ -6,8 +6,4 @@ use Rattle.aes.specs.Tabled.{eq_inv_rounds_by}
 use Rattle.aes.proofs.inv_cipher.decrypt.Given as goal
 
 abbrev pub invariant-loop-i : goal.invariant-loop-i
-invariant-loop-i l =
-    (l.i ≤ 13) × (columns l.x ≡ eq_inv_rounds_by l.td (columns l.initial.x) l.v (13 - l.i))
-
-abbrev pub decreases-loop-i : goal.decreases-loop-i
-decreases-loop-i l = l.i
+invariant-loop-i l = (1 ≤ l.i) × (columns l.x ≡ eq_inv_rounds_by l.td (columns l.initial.x) l.v (14 - l.i))

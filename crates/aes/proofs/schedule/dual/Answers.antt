@@ -11,19 +11,16 @@ use Rattle.aes.proofs.schedule.dual.Goals as goal
 
 pub loop-i-init : goal.loop-i-init
 unfolding tabulate
-loop-i-init c = (search rules, (length-replicate {A = ℕ} 60 0, refl))
+loop-i-init c = (length-replicate {A = ℕ} 60 0, refl)
 
 pub loop-i-preserved : goal.loop-i-preserved
 loop-i-preserved c =
     let l = c.loop-i in
     let a = c.args in
     let m : l.i < length l.v = omega arith in (
-      search rules,
-      (
-        simp length-set (search rules),
-        tabulate_more (λ k. dual_word_by a.te.now a.td.now k (get_or a.w k 0)) l.v l.i c.dual_word.result m l.invariant.1.1
-            c.dual_word.ensures,
-      ),
+      simp length-set (search rules),
+      tabulate_more (λ k. dual_word_by a.te.now a.td.now k (get_or a.w k 0)) l.v l.i c.dual_word.result m l.invariant.1
+          c.dual_word.ensures,
     )
 
 pub returns : goal.returns
@@ -32,4 +29,4 @@ returns c =
     let l = c.loop-i in
     let a = c.args in
     let n : l.i ≡ 60 = omega arith in
-    tabulate_all 60 (λ k. dual_word_by a.te.now a.td.now k (get_or a.w k 0)) l.v l.i n l.invariant.1.0 l.invariant.1.1
+    tabulate_all 60 (λ k. dual_word_by a.te.now a.td.now k (get_or a.w k 0)) l.v l.i n l.invariant.0 l.invariant.1

@@ -3,7 +3,7 @@
 -- Assumes nothing.
 use mathlib.Core.Path.{◌≡◌}
 use mathlib.Core.List.{List}
-use Prim.Native.Nat.{ℕ, ◌-◌, ◌≤◌}
+use Prim.Native.Nat.{ℕ, ◌-◌}
 use lib.ListN.{length, take}
 use Rattle.fips197.specs.Fips197.{expanded}
 use Rattle.aes_tables.specs.Tables as tables
@@ -11,8 +11,5 @@ use Rattle.aes.proofs.schedule.expand.Given as goal
 
 abbrev pub invariant-loop-i : goal.invariant-loop-i
 invariant-loop-i l =
-    (8 ≤ l.i) × ((l.i ≤ 60) × ((length l.w ≡ 60)
-    × ((key : List ℕ) → take 8 l.initial.w ≡ expanded key 0 → l.te ≡ tables.te → take l.i l.w ≡ expanded key (l.i - 8))))
-
-abbrev pub decreases-loop-i : goal.decreases-loop-i
-decreases-loop-i l = 60 - l.i
+    (length l.w ≡ 60)
+    × ((key : List ℕ) → take 8 l.initial.w ≡ expanded key 0 → l.te ≡ tables.te → take l.i l.w ≡ expanded key (l.i - 8))

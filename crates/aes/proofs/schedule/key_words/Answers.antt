@@ -12,18 +12,15 @@ use Rattle.aes.proofs.schedule.key_words.Goals as goal
 
 pub loop-i-init : goal.loop-i-init
 unfolding tabulate
-loop-i-init c = (search rules, (length-replicate {A = ℕ} 60 0, refl))
+loop-i-init c = (length-replicate {A = ℕ} 60 0, refl)
 
 pub loop-i-preserved : goal.loop-i-preserved
 loop-i-preserved c =
     let l = c.loop-i in
     let key = c.args.key in
     let m : l.i < length l.w = omega arith in (
-      search rules,
-      (
-        simp length-set (search rules),
-        tabulate_more (λ k. be 4 key (4 * k)) l.w l.i c.u32_at.result m l.invariant.1.1 c.u32_at.ensures,
-      ),
+      simp length-set (search rules),
+      tabulate_more (λ k. be 4 key (4 * k)) l.w l.i c.u32_at.result m l.invariant.1 c.u32_at.ensures,
     )
 
 pub returns : goal.returns
@@ -32,4 +29,4 @@ returns c =
     let l = c.loop-i in
     let key = c.args.key in
     let n : l.i ≡ 8 = omega arith in
-    subst (λ (i : ℕ). take i l.w ≡ tabulate i (λ k. be 4 key (4 * k))) n l.invariant.1.1
+    subst (λ (i : ℕ). take i l.w ≡ tabulate i (λ k. be 4 key (4 * k))) n l.invariant.1
