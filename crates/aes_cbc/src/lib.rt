@@ -22,12 +22,9 @@ fn load_front(s: &[u8]) -> Columns
     requires { 16 ≤ length s.now }
     ensures { columns result ≡ take 16 s.now }
 {
-    Columns {
-        a: words::be::u32_of(s[0], s[1], s[2], s[3]),
-        b: words::be::u32_of(s[4], s[5], s[6], s[7]),
-        c: words::be::u32_of(s[8], s[9], s[10], s[11]),
-        d: words::be::u32_of(s[12], s[13], s[14], s[15]),
-    }
+    let mut block = [0u8; 16];
+    block.copy_from_slice(&s[..16]);
+    block::load(block)
 }
 
 // Writes a block over the front of a slice.
@@ -35,22 +32,7 @@ fn store_front(out: &mut [u8], x: Columns)
     requires { 16 ≤ length out.old }
     ensures { out.new ≡ over (columns x) out.old }
 {
-    out[0] = (x.a / 0x100_0000 % 256) as u8;
-    out[1] = (x.a / 0x1_0000 % 256) as u8;
-    out[2] = (x.a / 0x100 % 256) as u8;
-    out[3] = (x.a % 256) as u8;
-    out[4] = (x.b / 0x100_0000 % 256) as u8;
-    out[5] = (x.b / 0x1_0000 % 256) as u8;
-    out[6] = (x.b / 0x100 % 256) as u8;
-    out[7] = (x.b % 256) as u8;
-    out[8] = (x.c / 0x100_0000 % 256) as u8;
-    out[9] = (x.c / 0x1_0000 % 256) as u8;
-    out[10] = (x.c / 0x100 % 256) as u8;
-    out[11] = (x.c % 256) as u8;
-    out[12] = (x.d / 0x100_0000 % 256) as u8;
-    out[13] = (x.d / 0x1_0000 % 256) as u8;
-    out[14] = (x.d / 0x100 % 256) as u8;
-    out[15] = (x.d % 256) as u8;
+    out[..16].copy_from_slice(&block::store(x));
 }
 
 // Encrypts the whole blocks of a run, with a lent table and key schedule.
@@ -59,16 +41,13 @@ fn encrypt_run(te: &[u32; 256], w: &[u32; 60], prev: Columns, out: &mut [u8]) ->
     ensures result_value { columns result ≡ sp80038a.previous (columns prev) (aes256_cbc.encrypt w.now (columns prev) out.old) }
     ensures out_after { out.new ≡ over (aes256_cbc.encrypt w.now (columns prev) out.old) out.old }
 {
-    let n = out.len() / 16;
     let mut before = prev;
-    let mut i: usize = 0;
-    while i < n {
+    for i in 0..out.len() / 16 {
         let at = 16 * i;
         let p = load_front(&out[at..]);
         let c = cipher::encrypt(te, w, block::xor(p, before));
         store_front(&mut out[at..], c);
         before = c;
-        i += 1;
     }
     before
 }
@@ -85,16 +64,13 @@ fn decrypt_run(
     ensures result_value { columns result ≡ sp80038a.previous (columns prev) out.old }
     ensures out_after { out.new ≡ over (aes256_cbc.eq_decrypt v.now (columns prev) out.old) out.old }
 {
-    let n = out.len() / 16;
     let mut before = prev;
-    let mut i: usize = 0;
-    while i < n {
+    for i in 0..out.len() / 16 {
         let at = 16 * i;
         let x = load_front(&out[at..]);
         let p = inv_cipher::decrypt(inverse, td, v, x);
         store_front(&mut out[at..], block::xor(p, before));
         before = x;
-        i += 1;
     }
     before
 }

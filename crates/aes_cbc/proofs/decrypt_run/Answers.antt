@@ -22,16 +22,8 @@ pub loop-i-init : goal.loop-i-init
 loop-i-init c =
     let a = c.args in (
       search rules,
-      (
-        search rules,
-        (
-          search rules,
-          (
-            sym (cipher_block-zero (columns a.prev) a.out.now),
-            (decrypted_to-zero (under a.v.now) (columns a.prev) a.out.now a.out.now, search rules),
-          ),
-        ),
-      ),
+      sym (cipher_block-zero (columns a.prev) a.out.now),
+      decrypted_to-zero (under a.v.now) (columns a.prev) a.out.now a.out.now,
     )
 
 pub loop-i-preserved : goal.loop-i-preserved
@@ -46,23 +38,14 @@ loop-i-preserved c =
     let x = c.load_front-x.result in
     let by-td = eq_inv_cipher_by-td c.requires.0 c.requires.1 v (columns x) (columns-block x.a x.b x.c x.d) in
     let whole =
-    decrypt-turn (under v) (keeps v) prev refl d l.i fits l.out l.invariant.1.1.1.1.0
+    decrypt-turn (under v) (keeps v) prev refl d l.i fits l.out l.invariant.2
     (columns c.load_front-x.result) (columns c.decrypt-p.result) (columns l.before) (columns c.xor.result)
     c.store_front.new.out (length l.out - 16 * l.i)
-    block (c.decrypt-p.ensures ∙ by-td) l.invariant.1.1.1.0 c.xor.ensures
+    block (c.decrypt-p.ensures ∙ by-td) l.invariant.1 c.xor.ensures
     (omega arith) c.store_front.ensures in (
-      search rules,
-      (
-        omega arith,
-        (
-          ap length whole ∙ length_decrypted_over (under v) (keeps v) prev refl d (l.i + 1) more,
-          (
-            block ∙ decrypt-block (under v) (keeps v) prev refl d l.i fits l.out l.invariant.1.1.1.1.0
-                ∙ sym (cipher_block_more prev d l.i),
-            (whole, l.invariant.1.1.1.1.1),
-          ),
-        ),
-      ),
+      ap length whole ∙ length_decrypted_over (under v) (keeps v) prev refl d (l.i + 1) more,
+      block ∙ decrypt-block (under v) (keeps v) prev refl d l.i fits l.out l.invariant.2 ∙ sym (cipher_block_more prev d l.i),
+      whole,
     )
 
 pub returns : goal.returns
@@ -72,6 +55,6 @@ returns c =
     let d = a.out.now in
     let e : l.i ≡ length d / 16 = omega arith in
     record {
-      result_value = l.invariant.1.1.1.0 ∙ cipher_block_all (columns a.prev) d l.i e;
-      out_after = l.invariant.1.1.1.1.0 ∙ ap (λ (w : List ℕ). over w d) (decrypted_to_all (under a.v.now) (columns a.prev) d l.i e);
+      result_value = l.invariant.1 ∙ cipher_block_all (columns a.prev) d l.i e;
+      out_after = l.invariant.2 ∙ ap (λ (w : List ℕ). over w d) (decrypted_to_all (under a.v.now) (columns a.prev) d l.i e);
     }

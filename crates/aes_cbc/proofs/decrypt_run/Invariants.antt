@@ -2,7 +2,7 @@
 -- last ciphertext block among them. Assumes nothing.
 use mathlib.Core.Path.{◌≡◌}
 use mathlib.Core.List.{List}
-use Prim.Native.Nat.{ℕ, ◌-◌, ◌/◌, ◌^◌, ◌<◌, ◌≤◌}
+use Prim.Native.Nat.{ℕ}
 use lib.ListN.{length}
 use Rattle.slices.specs.Over.{over}
 use Rattle.aes.specs.Columns.{columns}
@@ -16,8 +16,6 @@ under v = λ s. eq_inv_cipher s v
 
 abbrev pub invariant-loop-i : goal.invariant-loop-i
 invariant-loop-i l =
-    (l.n ≡ length l.initial.out / 16) × ((l.i ≤ l.n) × ((length l.out ≡ length l.initial.out) × ((columns l.before ≡ cipher_block (columns l.initial.before) l.initial.out l.i)
-    × ((l.out ≡ over (decrypted_to (under l.v) (columns l.initial.before) l.initial.out l.i) l.initial.out) × (l.n < 2 ^ 60)))))
-
-abbrev pub decreases-loop-i : goal.decreases-loop-i
-decreases-loop-i l = l.n - l.i
+    (length l.out ≡ length l.initial.out)
+    × (columns l.before ≡ cipher_block (columns l.initial.before) l.initial.out l.i)
+    × (l.out ≡ over (decrypted_to (under l.v) (columns l.initial.before) l.initial.out l.i) l.initial.out)

@@ -23,16 +23,8 @@ pub loop-i-init : goal.loop-i-init
 loop-i-init c =
     let a = c.args in (
       search rules,
-      (
-        search rules,
-        (
-          search rules,
-          (
-            sym (encrypted_last-zero (under a.w.now) (columns a.prev) a.out.now),
-            (encrypted_to-zero (under a.w.now) (columns a.prev) a.out.now a.out.now, search rules),
-          ),
-        ),
-      ),
+      sym (encrypted_last-zero (under a.w.now) (columns a.prev) a.out.now),
+      encrypted_to-zero (under a.w.now) (columns a.prev) a.out.now a.out.now,
     )
 
 pub loop-i-preserved : goal.loop-i-preserved
@@ -47,19 +39,14 @@ loop-i-preserved c =
     let x = c.xor.result in
     let by-te = cipher_by-te c.requires w (columns x) (columns-block x.a x.b x.c x.d) in
     let turn =
-    encrypt-turn (under w) (keeps w) prev refl d l.i fits l.out l.invariant.1.1.1.1.0
+    encrypt-turn (under w) (keeps w) prev refl d l.i fits l.out l.invariant.2
     (columns c.load_front-p.result) (columns l.before) (columns c.xor.result) (columns c.encrypt-c.result)
     c.store_front.new.out (length l.out - 16 * l.i)
-    block l.invariant.1.1.1.0 c.xor.ensures (c.encrypt-c.ensures ∙ by-te)
+    block l.invariant.1 c.xor.ensures (c.encrypt-c.ensures ∙ by-te)
     (omega arith) c.store_front.ensures in (
-      search rules,
-      (
-        omega arith,
-        (
-          ap length turn.1 ∙ length-encrypted_over (under w) (keeps w) prev refl d (l.i + 1) more,
-          (turn.0, (turn.1, l.invariant.1.1.1.1.1)),
-        ),
-      ),
+      ap length turn.1 ∙ length-encrypted_over (under w) (keeps w) prev refl d (l.i + 1) more,
+      turn.0,
+      turn.1,
     )
 
 pub returns : goal.returns
@@ -70,6 +57,6 @@ returns c =
     let w = a.w.now in
     let e : l.i ≡ length d / 16 = omega arith in
     record {
-      result_value = l.invariant.1.1.1.0 ∙ encrypted_last_all (under w) (keeps w) (columns a.prev) refl d l.i e;
-      out_after = l.invariant.1.1.1.1.0 ∙ ap (λ (t : List ℕ). over t d) (encrypted_to_all (under w) (columns a.prev) d l.i e);
+      result_value = l.invariant.1 ∙ encrypted_last_all (under w) (keeps w) (columns a.prev) refl d l.i e;
+      out_after = l.invariant.2 ∙ ap (λ (t : List ℕ). over t d) (encrypted_to_all (under w) (columns a.prev) d l.i e);
     }

@@ -3,7 +3,7 @@
 -- Assumes nothing.
 use mathlib.Core.Path.{◌≡◌}
 use mathlib.Core.List.{List}
-use Prim.Native.Nat.{ℕ, ◌-◌, ◌/◌, ◌^◌, ◌<◌, ◌≤◌}
+use Prim.Native.Nat.{ℕ}
 use lib.ListN.{length}
 use Rattle.slices.specs.Over.{over}
 use Rattle.aes.specs.Columns.{columns}
@@ -17,9 +17,6 @@ under w = λ s. cipher s w
 
 abbrev pub invariant-loop-i : goal.invariant-loop-i
 invariant-loop-i l =
-    (l.n ≡ length l.initial.out / 16) × ((l.i ≤ l.n) × ((length l.out ≡ length l.initial.out)
-    × ((columns l.before ≡ encrypted_last (under l.w) (columns l.initial.before) l.initial.out l.i)
-    × ((l.out ≡ over (encrypted_to (under l.w) (columns l.initial.before) l.initial.out l.i) l.initial.out) × (l.n < 2 ^ 60)))))
-
-abbrev pub decreases-loop-i : goal.decreases-loop-i
-decreases-loop-i l = l.n - l.i
+    (length l.out ≡ length l.initial.out)
+    × (columns l.before ≡ encrypted_last (under l.w) (columns l.initial.before) l.initial.out l.i)
+    × (l.out ≡ over (encrypted_to (under l.w) (columns l.initial.before) l.initial.out l.i) l.initial.out)
