@@ -43,8 +43,8 @@ pub fn decrypt(inverse: &[u8; 256], td: &[u32; 256], v: &[u32; 60], s: Columns) 
     ensures { columns result ≡ tabled.eq_inv_cipher_by inverse.now td.now (columns s) v.now }
 {
     let mut x = add_round_key(v, 14, s);
-    for i in (1..14).rev() {
-        x = inv_round(td, v, i, x);
+    for i in (0..13).rev() {
+        x = inv_round(td, v, i + 1, x);
     }
     inv_final_round(inverse, v, x)
 }

@@ -52,11 +52,11 @@ rounds_by_more t s w i x y h p q =
     let m : i ≡ suc (i - 1) = omega arith in
     rw n (q ∙ ap (λ (z : List ℕ). round_by t z w i) p ∙ ap (round_by t (rounds_by t s w (i - 1)) w) m)
 
--- the rounds count down: those from i on are done
-pub eq_inv_rounds_by_more : (t s v : List ℕ) (i : ℕ) (x y : List ℕ) → 1 < i → i ≤ 14 → x ≡ eq_inv_rounds_by t s v (14 - i)
-    → y ≡ eq_inv_round_by t x v (i - 1) → y ≡ eq_inv_rounds_by t s v (14 - (i - 1))
+-- the rounds count down: i are left
+pub eq_inv_rounds_by_more : (t s v : List ℕ) (i : ℕ) (x y : List ℕ) → 0 < i → i ≤ 13 → x ≡ eq_inv_rounds_by t s v (13 - i)
+    → y ≡ eq_inv_round_by t x v i → y ≡ eq_inv_rounds_by t s v (13 - (i - 1))
 unfolding eq_inv_rounds_by
 eq_inv_rounds_by_more t s v i x y h l p q =
-    let n : 14 - (i - 1) ≡ suc (14 - i) = omega arith in
-    let m : i - 1 ≡ 13 - (14 - i) = omega arith in
-    rw n (q ∙ ap (λ (z : List ℕ). eq_inv_round_by t z v (i - 1)) p ∙ ap (eq_inv_round_by t (eq_inv_rounds_by t s v (14 - i)) v) m)
+    let n : 13 - (i - 1) ≡ suc (13 - i) = omega arith in
+    let m : i ≡ 13 - (13 - i) = omega arith in
+    rw n (q ∙ ap (λ (z : List ℕ). eq_inv_round_by t z v i) p ∙ ap (eq_inv_round_by t (eq_inv_rounds_by t s v (13 - i)) v) m)
