@@ -30,6 +30,7 @@ impl ChaCha20 {
         ensures { out.new ≡ stream.apply (rfc8439.blocks key nonce) at out.old }
     {
         let mut done: usize = 0;
+        // A turn covers what its block has left: by a for over blocks each turn would compute where it begins, no plainer.
         while done < out.len() {
             let counter = stream::counter_at(at, done);
             let block = block::block(key, (counter % 0x1_0000_0000) as u32, nonce);

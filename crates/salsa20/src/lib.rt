@@ -22,6 +22,7 @@ impl Salsa20 {
         ensures { out.new ≡ stream.apply (salsa20.blocks key nonce) at out.old }
     {
         let mut done: usize = 0;
+        // A turn covers what its block has left: by a for over blocks each turn would compute where it begins, no plainer.
         while done < out.len() {
             let block = block::block(key, stream::counter_at(at, done), nonce);
             done += stream::xor_block(&mut out[done..], block, stream::place_at(at, done));
