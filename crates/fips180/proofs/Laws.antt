@@ -1,11 +1,12 @@
 -- Laws of the standard's definitions and of a hash under way, over both algorithms.
 --
 -- In order:
---   one block   Schedule, Rounds, Eight (the intermediate hash value)
+--   one block   Schedule, Numbers, Rounds, Eight (the intermediate hash value)
 --   lists       Blocks (block by block), Digest (its bytes), Lengths, Padding (5.1), Last (the last blocks)
 --   states      Feeding (what a state holds), States (the code's steps), Cuts (two feeds are one), Feeds (the theorem)
 -- Not here: the worked examples (Examples).
 pub mod Schedule
+pub mod Numbers
 pub mod Rounds
 pub mod Eight
 pub mod Blocks

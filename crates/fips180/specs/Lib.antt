@@ -2,3 +2,6 @@ pub mod Fips180
 pub mod Unrolled
 pub mod Hashing
 pub mod Feeds
+pub mod Working
+pub mod State
+pub mod Blocked

@@ -5,14 +5,14 @@
 // Every value of the struct is a state; how many bytes of the buffer are pending follows from the total.
 #![tactic(auto)]
 
-ghost use Rattle.std.specs.Prelude.{◌≡◌, ◌+◌, ◌<◌, ◌^◌, length};
+ghost use Rattle.std.specs.Prelude.{◌≡◌};
 ghost use Rattle.fips180.specs.Fips180 as fips180;
+ghost use Rattle.fips180.specs.State.{held};
 ghost use Rattle.sha512.specs.State as state;
 
+use fips180::{State, Working};
 use refusals::{Outcome, Refusal};
 
-mod block;
-mod rounds;
 mod tables;
 
 // A hash under way: the chaining words, the bytes that are no whole block yet, and how many bytes came in all.
@@ -49,36 +49,29 @@ impl Sha512 {
         }
     }
 
-    // The state with the bytes of `s` behind those that came before: whole blocks are compressed straight from `s`.
-    fn absorb(self, s: &[u8]) -> Self
-        requires { self.total + length s.now < 2 ^ 32 }
-        ensures { result ≡ state.absorbed self s.now }
+    // The same state, over the word.
+    fn state(self) -> State<u64, 128>
+        ensures { held (λ x. x) result ≡ state.held self }
     {
-        let total = self.total as usize;
-        let n = s.len();
-        let next = (total + n) as u32;
-        let used = total % 128;
-        let need = 128 - used;
         let chain = self.chain;
-        let mut buffer = self.buffer;
-        slices::copy(&mut buffer[used..], s);
-        if n < need {
-            return Sha512 {
-                chain,
-                buffer,
-                total: next,
-            };
+        let buffer = self.buffer;
+        State {
+            chain: Working::of(chain),
+            buffer,
+            total: self.total,
         }
-        let k = tables::K;
-        let c = block::blocks(chain, &buffer, &k);
-        let d = block::blocks(c, &s[need..], &k);
-        let at = need + (n - need) / 128 * 128;
-        let mut rest = [0u8; 128];
-        slices::copy(&mut rest, &s[at..]);
+    }
+
+    // And back.
+    fn of(s: State<u64, 128>) -> Self
+        ensures { state.held result ≡ held (λ x. x) s }
+    {
+        let chain = s.chain.words();
+        let buffer = s.buffer;
         Sha512 {
-            chain: d,
-            buffer: rest,
-            total: next,
+            chain,
+            buffer,
+            total: s.total,
         }
     }
 
@@ -86,24 +79,10 @@ impl Sha512 {
     pub fn feed_to(self, s: &[u8], limit: u32) -> Fed
         ensures { result ≡ state.fed_to limit self s.now }
     {
-        let total = self.total as usize;
-        let most = limit as usize;
-        if most < total {
-            return Fed {
-                outcome: Outcome::Refused(Refusal::TooLong),
-                next: self,
-            };
-        }
-        if most - total < s.len() {
-            return Fed {
-                outcome: Outcome::Refused(Refusal::TooLong),
-                next: self,
-            };
-        }
-        let next = self.absorb(s);
+        let fed = self.state().feed_to(s, limit, &tables::K);
         Fed {
-            outcome: Outcome::Accepted,
-            next,
+            outcome: fed.outcome,
+            next: Sha512::of(fed.next),
         }
     }
 
@@ -118,19 +97,7 @@ impl Sha512 {
     pub fn finish(self) -> [u8; 64]
         ensures { result ≡ state.finished self }
     {
-        let total = self.total as usize;
-        let used = total % 128;
-        let buffer = self.buffer;
-        let chain = self.chain;
-        let bits = words::be::bytes64((total as u64) * 8);
-        let mut last = [0u8; 256];
-        slices::copy(&mut last, &buffer[..used]);
-        last[used] = 0x80;
-        let end = (used + 16) / 128 * 128 + 128;
-        let at = end - 8;
-        slices::copy(&mut last[at..], &bits);
-        let c = block::blocks(chain, &last[..end], &tables::K);
-        digest(c)
+        digest(self.state().close::<80, 256>(&tables::K))
     }
 }
 
@@ -139,12 +106,10 @@ fn digest(c: [u64; 8]) -> [u8; 64]
     ensures { result ≡ fips180.digest fips180.sha512 c }
 {
     let mut out = [0u8; 64];
-    let mut i: usize = 0;
-    while i < 8 {
+    for i in 0..8 {
         let b = words::be::bytes64(c[i]);
         let at = i * 8;
         slices::copy(&mut out[at..], &b);
-        i += 1;
     }
     out
 }

@@ -5,22 +5,21 @@
 --   rest_short, rest_more, length_rest, rest_append    what stands behind the whole blocks
 --   compress-take                      one block's bytes suffice
 --   hash_blocks_short, -more, -append   no block, a block in front, two lists joined
---   hash_blocks-turn, hash_blocks_all    a loop over the blocks of a slice
+--   hash_blocks-turn                   a loop over the blocks of a slice
 -- Not here: the padding (Padding), states (Feeding).
 -- Assumes nothing.
 use mathlib.Core.Path.{◌≡◌, refl, sym, ap, ◌∙◌}
 use mathlib.Core.List.{List, [], ◌∷◌, ◌++◌}
-use Prim.Native.Nat.{ℕ, zero, suc, ◌+◌, ◌-◌, ◌*◌, ◌%◌, ◌≤◌, ◌<◌}
+use Prim.Native.Nat.{ℕ, zero, suc, ◌+◌, ◌*◌, ◌%◌, ◌≤◌, ◌<◌}
 use native.Mathlib.Nat.{div-eq_of_lt, div-eq-sub-div, mod-eq_of_lt, mod-eq-sub-mod, add_comm, zero-mul, suc-mul, mul-le-mul_right}
 use native.Mathlib.Numerals.{add-one}
 use native.Mathlib.Omega.{arith}
 use lib.Dec.{ltb}
-use lib.ListN.{length, take, drop, length-append, length-drop}
+use lib.ListN.{length, take, drop, length-append, length-drop, drop_of_length-le}
 use lib.Seq.{drop-drop, take-append-le, drop-append-le}
 use borrow.Author.Tests.{ltb-true, ltb-false}
 use Rattle.words.proofs.Laws.Cases.{by_bool}
 use Rattle.words.proofs.Laws.Endian.{be-take}
-use Rattle.slices.proofs.Laws.Parts.{part-tail}
 use Rattle.slices.specs.Cut.{cut}
 use Rattle.fips180.specs.Fips180.{Sha2, block_bytes, parse, block_words, schedule, compress, hash_blocks}
 use Rattle.fips180.specs.Hashing.{rest}
@@ -132,13 +131,11 @@ module _ (p : Sha2) (pos : 0 < block_bytes p) where
       ≡ hash_blocks p (hash_blocks p s (parse p a)) (parse p (rest (block_bytes p) a ++ t))
   hash_blocks-append s a t = hash_blocks_append_to (length a) s a t (omega arith)
 
-  -- a loop over the blocks of s: one turn at a place, and the end
-  pub hash_blocks-turn : (c d s : List ℕ) (at : ℕ) → at + block_bytes p ≤ length s → d
-      ≡ compress p c (take (length s - at) (drop at s))
-      → hash_blocks p d (parse p (drop (at + block_bytes p) s)) ≡ hash_blocks p c (parse p (drop at s))
-  hash_blocks-turn c d s at l e =
-      let h : block_bytes p ≤ length (drop at s) = simp length-drop (omega arith) in
-      rw (e, part-tail, ← drop-drop) (sym (hash_blocks_more c (drop at s) h))
-
-  pub hash_blocks_all : (c s : List ℕ) (at : ℕ) → length s - at < block_bytes p → hash_blocks p c (parse p (drop at s)) ≡ c
-  hash_blocks_all c s at l = hash_blocks_short c (drop at s) (simp length-drop (omega arith))
+  -- a loop over the blocks of a slice: b is the next block, and r what is behind it
+  pub hash_blocks-turn : (c b r : List ℕ) → length b ≡ block_bytes p
+      → hash_blocks p c (parse p (b ++ r)) ≡ hash_blocks p (compress p c b) (parse p r)
+  hash_blocks-turn c b r e =
+      let h : block_bytes p ≤ length b = omega arith in
+      let i : length b ≤ block_bytes p = omega arith in
+      let j : block_bytes p ≤ length (b ++ r) = simp length-append (omega arith) in
+      rw (hash_blocks_more c (b ++ r) j, compress-append p c b r h, drop-append-le (block_bytes p) b r h, drop_of_length-le b i)

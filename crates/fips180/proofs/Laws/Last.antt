@@ -3,15 +3,17 @@
 --
 -- In order:
 --   marked, laid                        the pending bytes and the byte 80, and all of it up to an end
+--   used_is, end_is                     the places that the code computes are the padding's
 --   length_front                        how many bytes are pending
---   length_marked, length-laid          the array's length after each step
---   length_last                         the last blocks have room
---   finish_is                           so laid, hashed and written out, they are the state's digest
+--   room, end_most                      the last blocks have room
+--   length_marked, at_fits, length-laid the array's length after each step
+--   length_last                         and of its part
+--   close_is                            so laid and hashed, they leave the state's last hash value
 -- Not here: the padding itself (Padding), states (Feeding).
 -- Assumes nothing.
 use mathlib.Core.Path.{◌≡◌, sym, ap, ◌∙◌}
 use mathlib.Core.List.{List, ◌∷◌, ◌++◌, append_assoc}
-use Prim.Native.Nat.{ℕ, suc, ◌+◌, ◌-◌, ◌*◌, ◌%◌, ◌^◌, ◌≤◌, ◌<◌}
+use Prim.Native.Nat.{ℕ, suc, ◌+◌, ◌-◌, ◌*◌, ◌/◌, ◌%◌, ◌^◌, ◌≤◌, ◌<◌}
 use native.Mathlib.Nat.{mod-lt}
 use native.Mathlib.Omega.{arith}
 use lib.ListN.{length, take, drop, set, length-set, length-append, length-replicate}
@@ -22,8 +24,8 @@ use Rattle.words.proofs.Laws.Endian.{length-be_bytes}
 use Rattle.slices.specs.Over.{over}
 use Rattle.slices.proofs.Laws.Over.{take_over, over_fits, over_behind_fits, length_over}
 use Rattle.slices.proofs.Laws.Zeros.{zeros, take-zeros, drop-zeros}
-use Rattle.fips180.specs.Fips180.{Sha2, block_bytes, padding, parse, hash_blocks, digest}
-use Rattle.fips180.specs.Hashing.{Hashing, pending, finish}
+use Rattle.fips180.specs.Fips180.{Sha2, block_bytes, padding, parse, hash_blocks}
+use Rattle.fips180.specs.Hashing.{Hashing, pending}
 use Rattle.fips180.proofs.Laws.Padding.{last_end, last_end_most, zero_bytes_end, padding_is}
 
 -- w and the byte 80, over n zeros
@@ -50,106 +52,119 @@ laid w len d at e n h f l g =
     let y : length (take at d ++ len) ≡ e = rw s (simp (length-append, length-replicate) (omega arith)) in
     take_over (take at d ++ len) d e y ∙ ap (λ (t : List ℕ). t ++ len) s ∙ append_assoc w (0x80 ∷ zeros j) len
 
--- a state h with a whole buffer, of an algorithm whose words are at least four bytes
-module _ (p : Sha2) (wide : 4 ≤ p.bytes) (h : Hashing) (long : length h.buffer ≡ block_bytes p) where
+-- a state h with a whole buffer of b bytes, of an algorithm whose words are at least four bytes
+module _ (p : Sha2) (wide : 4 ≤ p.bytes) (h : Hashing) (b : ℕ) (is : b ≡ block_bytes p) (long : length h.buffer ≡ b) where
   abbrev used : ℕ
-  used = h.total % block_bytes p
+  used = h.total % b
 
-  -- the pending bytes, two blocks of zeros, and where the length goes
+  -- the pending bytes, where the last block ends, and where the length goes
   abbrev front : List ℕ
   front = take used h.buffer
 
-  abbrev blank : List ℕ
-  blank = zeros (2 * block_bytes p)
+  abbrev end : ℕ
+  end = (used + b / 8) / b * b + b
 
   abbrev at : ℕ
-  at = last_end p h.total - 8
+  at = end - 8
 
   pos : 0 < block_bytes p
   pos = omega arith
 
-  pub length_front : length front ≡ used
-  length_front =
-      let k = mod-lt h.total pos in
-      length-take-le used h.buffer (omega arith)
+  used_is : used ≡ h.total % block_bytes p
+  used_is = ap (λ (n : ℕ). h.total % n) is
 
-  -- the length fits behind the byte 80
-  room : used + 1 + 8 ≤ last_end p h.total
-  room = omega (arith, zero_bytes_end p pos h.total)
+  end_is : end ≡ last_end p h.total
+  end_is =
+      let e : b / 8 ≡ 2 * p.bytes = omega arith in
+      rw (e, is)
 
-  -- d holds the pending bytes over zeros, as a copy left them
-  module _ {d : List ℕ} (copied : d ≡ over (take (length blank) front) blank) where
-    pub length_marked : length (set d used 0x80) ≡ 2 * block_bytes p
+  used-lt : used < b
+  used-lt = mod-lt h.total (omega (arith, pos))
+
+  length_front : length front ≡ used
+  length_front = length-take-le used h.buffer (omega (arith, used-lt))
+
+  -- the length fits behind the byte 80, and the end in two blocks
+  room : used + 1 + 8 ≤ end
+  room = omega (arith, zero_bytes_end p pos h.total, end_is, used_is)
+
+  end_most : end ≤ 2 * b
+  end_most = omega (arith, last_end_most p pos h.total, end_is)
+
+  -- x holds the pending bytes over d zeros, as a copy left them
+  module _ (d : ℕ) (two : d ≡ 2 * b) {x : List ℕ} (copied : x ≡ over (take (length (zeros d)) front) (zeros d)) where
+    length_marked : length (set x used 0x80) ≡ d
     length_marked =
-        let k = mod-lt h.total pos in
+        let k = used-lt in
         let n = length_front in
-        let z : length blank ≡ 2 * block_bytes p = length-replicate (2 * block_bytes p) 0 in
-        let l : length front ≤ length blank = omega arith in
-        simp length-set (ap length (copied ∙ over_fits front blank l) ∙ length_over front blank l ∙ z)
+        let z : length (zeros d) ≡ d = length-replicate d 0 in
+        let l : length front ≤ length (zeros d) = omega arith in
+        simp length-set (ap length (copied ∙ over_fits front (zeros d) l) ∙ length_over front (zeros d) l ∙ z)
+
+    pub at_fits : at ≤ length (set x used 0x80)
+    at_fits = omega (arith, end_most, length_marked)
 
     -- bits is the length in bits, and m the rest of the array from `at` on with that written into it
     module _ {bits m : List ℕ} (counted : bits ≡ be_bytes 8 (h.total * 8))
-        (behind : m ≡ over (take (length (take (2 * block_bytes p - at) (drop at (set d used 0x80)))) bits)
-        (take (2 * block_bytes p - at) (drop at (set d used 0x80)))) where
+        (behind : m ≡ over (take (length (take (length (set x used 0x80) - at) (drop at (set x used 0x80)))) bits)
+        (take (length (set x used 0x80) - at) (drop at (set x used 0x80)))) where
       length_bits : length bits ≡ 8
       length_bits = ap length counted ∙ length-be_bytes 8 (h.total * 8)
 
-      laid_over : put_mid at (2 * block_bytes p - at) (set d used 0x80) m
-          ≡ over (take at (set d used 0x80) ++ bits) (set d used 0x80)
+      laid_over : put_mid at (length (set x used 0x80) - at) (set x used 0x80) m
+          ≡ over (take at (set x used 0x80) ++ bits) (set x used 0x80)
       laid_over =
           let n = length_marked in
           let r = room in
           let i = length_bits in
-          let e = last_end_most p pos h.total in
-          over_behind_fits bits (set d used 0x80) m at (2 * block_bytes p - at) (omega arith) (omega arith) behind
+          let e = end_most in
+          over_behind_fits bits (set x used 0x80) m at (length (set x used 0x80) - at) (omega arith) (omega arith) behind
 
-      pub length-laid : length (put_mid at (2 * block_bytes p - at) (set d used 0x80) m) ≡ 2 * block_bytes p
+      length-laid : length (put_mid at (length (set x used 0x80) - at) (set x used 0x80) m) ≡ d
       length-laid =
           let n = length_marked in
           let r = room in
           let i = length_bits in
-          let e = last_end_most p pos h.total in
-          let f = length-take-le at (set d used 0x80) (omega arith) in
-          let fits : length (take at (set d used 0x80) ++ bits) ≤ length (set d used 0x80) = simp length-append (omega arith) in
-          ap length laid_over ∙ length_over (take at (set d used 0x80) ++ bits) (set d used 0x80) fits ∙ n
+          let e = end_most in
+          let f = length-take-le at (set x used 0x80) (omega arith) in
+          let fits : length (take at (set x used 0x80) ++ bits) ≤ length (set x used 0x80) = simp length-append (omega arith) in
+          ap length laid_over ∙ length_over (take at (set x used 0x80) ++ bits) (set x used 0x80) fits ∙ n
 
-      pub length_last : last_end p h.total
-          ≡ length (take (last_end p h.total) (put_mid at (2 * block_bytes p - at) (set d used 0x80) m))
+      pub length_last : end ≡ length (take end (put_mid at (length (set x used 0x80) - at) (set x used 0x80) m))
       length_last =
-          let e = last_end_most p pos h.total in
-          sym (length-take-le (last_end p h.total) _ (omega (arith, length-laid)))
+          let e = end_most in
+          sym (length-take-le end _ (omega (arith, length-laid)))
 
       last_is : h.total < 2 ^ 32
-          → take (last_end p h.total) (put_mid at (2 * block_bytes p - at) (set d used 0x80) m)
-          ≡ pending p h ++ padding p h.total
+          → take end (put_mid at (length (set x used 0x80) - at) (set x used 0x80) m) ≡ pending p h ++ padding p h.total
       unfolding pending
       last_is few =
-          let k = mod-lt h.total pos in
+          let k = used-lt in
           let u = length_front in
-          let z : length blank ≡ 2 * block_bytes p = length-replicate (2 * block_bytes p) 0 in
-          let l : length front ≤ length blank = omega arith in
+          let z : length (zeros d) ≡ d = length-replicate d 0 in
+          let l : length front ≤ length (zeros d) = omega arith in
           let r = room in
           let i = length_bits in
-          let e = last_end_most p pos h.total in
-          let g : set d used 0x80 ≡ set (over front blank) (length front) 0x80 = ap (λ (x : List ℕ). set x used 0x80)
-          (copied ∙ over_fits front blank l)
-          ∙ ap (λ (x : ℕ). set (over front blank) x 0x80) (sym u) in
+          let e = end_most in
+          let g : set x used 0x80 ≡ set (over front (zeros d)) (length front) 0x80 = ap (λ (y : List ℕ). set y used 0x80)
+          (copied ∙ over_fits front (zeros d) l)
+          ∙ ap (λ (y : ℕ). set (over front (zeros d)) y 0x80) (sym u) in
           let q : length front < at = omega arith in
-          let j : at + length bits ≡ last_end p h.total = omega arith in
-          let s : at ≤ 2 * block_bytes p = omega arith in
+          let j : at + length bits ≡ end = omega arith in
+          let s : at ≤ d = omega arith in
           cc (
             counted,
             laid_over,
             padding_is p wide h.total few,
             u,
-            laid front bits (set d used 0x80) at (last_end p h.total) (2 * block_bytes p) q j s g,
+            used_is,
+            end_is,
+            laid front bits (set x used 0x80) at end d q j s g,
           )
 
-      -- the digest of the words that the last blocks leave
-      pub finish_is : {c r : List ℕ} → h.total < 2 ^ 32
-          → c ≡ hash_blocks p h.chain (parse p (take (last_end p h.total)
-          (put_mid at (2 * block_bytes p - at) (set d used 0x80) m)))
-          → r ≡ digest p c
-          → r ≡ finish p h
-      unfolding finish
-      finish_is few e₁ e₂ = cc (e₁, e₂, last_is few)
+      -- the hash value that the last blocks leave
+      pub close_is : {r : List ℕ} → h.total < 2 ^ 32
+          → r ≡ hash_blocks p h.chain (parse p (take end
+          (put_mid at (length (set x used 0x80) - at) (set x used 0x80) m)))
+          → r ≡ hash_blocks p h.chain (parse p (pending p h ++ padding p h.total))
+      close_is few e = cc (e, last_is few)

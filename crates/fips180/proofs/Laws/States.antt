@@ -5,6 +5,7 @@
 --   state, state_same                  a state by its parts
 --   filled, length-filled              the buffer after the list is copied behind the pending bytes
 --   absorbed_short, absorbed_long      a list that fills no block, and one that does
+--   absorbed_few, absorbed_many        the same of a buffer whose length is not written out
 -- Not here: what the states mean (Feeding), the last blocks (Last).
 -- Assumes nothing.
 use mathlib.Core.Path.{◌≡◌, sym, ap, ◌∙◌}
@@ -159,3 +160,26 @@ module _ (p : Sha2) (pos : 0 < block_bytes p) (h : Hashing) (s : List ℕ) (long
         state_same (h.total + length s)
         (cc (filled e₁, e₂, e₃, first_is, part-tail need s, hash_blocks_long))
         (cc (e₅, part-tail at s, r, rest_fits, kept_long))
+
+-- the same of a buffer of b bytes that is lent from its pending bytes on: m is what the copy of s left there
+module _ (p : Sha2) (pos : 0 < block_bytes p) (h : Hashing) (s : List ℕ) (b : ℕ) (is : b ≡ block_bytes p)
+    (long : length h.buffer ≡ b) (need : ℕ) (are : need ≡ b - h.total % b) {m : List ℕ}
+    (copied : m ≡ over (take (length (take (length h.buffer - h.total % b) (drop (h.total % b) h.buffer))) s)
+    (take (length h.buffer - h.total % b) (drop (h.total % b) h.buffer))) where
+  left : length h.buffer - h.total % b ≡ need
+  left = omega arith
+
+  pub absorbed_few : length s < need
+      → state h.chain (put_mid (h.total % b) (length h.buffer - h.total % b) h.buffer m) (h.total + length s) ≡ absorbed p h s
+  absorbed_few few =
+      rw (left, is) (absorbed_short p pos h s (long ∙ is) need (rw is at are) few (rw (left, is) at copied))
+
+  pub absorbed_many : {c d l : List ℕ} (at : ℕ) → need ≤ length s
+      → c ≡ hash_blocks p h.chain (parse p (put_mid (h.total % b) (length h.buffer - h.total % b) h.buffer m))
+      → d ≡ hash_blocks p c (parse p (take (length s - need) (drop need s)))
+      → at ≡ need + (length s - need) / b * b
+      → l ≡ over (take (length (replicate {A = ℕ} b 0)) (take (length s - at) (drop at s))) (replicate b 0)
+      → state d l (h.total + length s) ≡ absorbed p h s
+  absorbed_many at enough e₁ e₂ e₃ e₄ =
+      absorbed_long p pos h s (long ∙ is) need (rw is at are) enough at (rw (left, is) at copied)
+      (rw (left, is) at e₁) e₂ (rw is at e₃) (rw is at e₄)

@@ -9,21 +9,18 @@ use Rattle.sha512.proofs.digest.Goals as goal
 
 pub loop-i-init : goal.loop-i-init
 unfolding digest
-loop-i-init c = (search rules, (search rules, refl))
+loop-i-init c = (refl, refl)
 
 pub loop-i-preserved : goal.loop-i-preserved
 loop-i-preserved c =
     let l = c.loop-i in
     let w = c.args.c in
-    let long : length w ≡ 8 = search rules in (
-      search rules,
-      digest-turn sha512 w l.out l.i long l.invariant.1.0 (omega arith) l.invariant.1.1
-          c.bytes64-b.ensures c.copy.ensures,
-    )
+    let long : length w ≡ 8 = search rules in
+    digest-turn sha512 w l.out l.i long l.invariant.0 (omega arith) l.invariant.1 c.bytes64-b.ensures c.copy.ensures
 
 pub returns : goal.returns
 returns c =
     let l = c.loop-i in
     let w = c.args.c in
     let long : length w ≡ 8 = search rules in
-    digest_all sha512 w l.out l.i 64 (omega arith) (omega arith) (omega arith) l.invariant.1.1
+    digest_all sha512 w l.out l.i 64 (omega arith) (omega arith) (omega arith) l.invariant.1

@@ -1,28 +1,22 @@
 -- `sha512::Sha512::feed_to` meets its contract. Assumes nothing.
-use Prim.Native.Nat.{◌+◌, ◌≤◌, ◌<◌}
-use native.Mathlib.Omega.{arith}
-use lib.ListN.{length}
-use borrow.Author.Tests.{le-leb, lt-leb}
-use Rattle.fips180.specs.Hashing.{feed_to}
+use Rattle.std.proofs.Common.{ap, ◌∙◌, rules}
+use Rattle.fips180.specs.Fips180.{sha512}
+use Rattle.fips180.specs.Fips180.Constants.{k512}
+use Rattle.fips180.specs.Hashing as hashing
+use Rattle.fips180.specs.Hashing.{Hashing}
+use Rattle.sha512.specs.State.{stored}
+use Rattle.sha512.specs.declared.Fed.{Fed}
 use Rattle.sha512.proofs.Sha512.feed_to.Goals as goal
 
-pub returns-then-most-total : goal.returns-then-most-total
-unfolding feed_to
-returns-then-most-total c =
-    let a = c.args in
-    let l : a.limit < a.self.total + length a.s.now = omega arith in
-    rw (lt-leb _ _ l)
+abbrev kept : hashing.Fed → Fed
+kept f = record { outcome = f.outcome; next = stored f.next }
 
-pub returns-then-most-total-2 : goal.returns-then-most-total-2
-unfolding feed_to
-returns-then-most-total-2 c =
-    let a = c.args in
-    let l : a.limit < a.self.total + length a.s.now = omega arith in
-    rw (lt-leb _ _ l)
+pub feed_to-fed-requires : goal.feed_to-fed-requires
+unfolding k512
+feed_to-fed-requires c = search rules
 
 pub returns : goal.returns
-unfolding feed_to
 returns c =
-    let a = c.args in
-    let l : a.self.total + length a.s.now ≤ a.limit = omega arith in
-    rw (le-leb _ _ l, c.absorb-next.ensures)
+    ap (λ (h : Hashing). record { outcome = c.feed_to-fed.result.outcome; next = stored h }) c.of.ensures
+    ∙ ap kept (c.feed_to-fed.ensures
+    ∙ ap (λ (h : Hashing). hashing.feed_to sha512 c.args.limit h c.args.s.now) c.state.ensures)

@@ -1,0 +1,38 @@
+-- `fips180::state::State::close` meets its contract. Assumes nothing.
+use Rattle.std.proofs.Common.{◌≡◌, ◌∙◌, length, arith, rules}
+use Rattle.fips180.specs.State.{held}
+use Rattle.fips180.proofs.Laws.Last as last
+use Rattle.fips180.proofs.state.State.close.Goals as goal
+
+pub whole_as_slice-room : goal.whole_as_slice-room
+whole_as_slice-room g c = omega (arith, g.met.W.Word.laws.most)
+
+pub slice_bounds-copy-count : goal.slice_bounds-copy-count
+slice_bounds-copy-count g c =
+    let p = g.W.Word.sha2 in
+    let h = held g.W.Word.number c.args.self in
+    let long : length c.args.self.buffer ≡ g.row.B = search rules in
+    last.at_fits p g.met.W.Word.laws.least h g.row.B c.requires.block long g.row.D c.requires.two c.copy.ensures
+
+pub slice_bounds-copy-start : goal.slice_bounds-copy-start
+slice_bounds-copy-start g c =
+    let p = g.W.Word.sha2 in
+    let h = held g.W.Word.number c.args.self in
+    let long : length c.args.self.buffer ≡ g.row.B = search rules in
+    last.at_fits p g.met.W.Word.laws.least h g.row.B c.requires.block long g.row.D c.requires.two c.copy.ensures
+
+pub slice_bounds-blocks-end : goal.slice_bounds-blocks-end
+slice_bounds-blocks-end g c =
+    let p = g.W.Word.sha2 in
+    let h = held g.W.Word.number c.args.self in
+    let long : length c.args.self.buffer ≡ g.row.B = search rules in
+    last.length_last p g.met.W.Word.laws.least h g.row.B c.requires.block long g.row.D c.requires.two c.copy.ensures
+    c.bytes64-bits.ensures c.copy-2.ensures
+
+pub returns : goal.returns
+returns g c =
+    let p = g.W.Word.sha2 in
+    let h = held g.W.Word.number c.args.self in
+    let long : length c.args.self.buffer ≡ g.row.B = search rules in
+    last.close_is p g.met.W.Word.laws.least h g.row.B c.requires.block long g.row.D c.requires.two c.copy.ensures
+    c.bytes64-bits.ensures c.copy-2.ensures (omega arith) (c.words.ensures ∙ c.blocks-2.ensures)

@@ -1,7 +1,0 @@
--- `sha256::rounds::t2` meets its contract. Assumes nothing.
-use Rattle.fips180.specs.Fips180.{t2}
-use Rattle.sha256.proofs.rounds.t2.Goals as goal
-
-pub returns : goal.returns
-unfolding t2
-returns c = cc
