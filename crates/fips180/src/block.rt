@@ -52,7 +52,7 @@ fn compress<W: Word, const N: usize>(h: Working<W>, block: &[u8], k: &[W; N]) ->
 }
 
 // The hash value after every whole block of `s`.
-pub fn blocks<W: Word, const N: usize>(h: Working<W>, s: &[u8], k: &[W; N]) -> Working<W>
+pub(crate) fn blocks<W: Word, const N: usize>(h: Working<W>, s: &[u8], k: &[W; N]) -> Working<W>
     requires { map W.number k.now ≡ W.sha2.constants }
     ensures { words_of W.number result ≡ fips180.hash_blocks W.sha2 (words_of W.number h) (fips180.parse W.sha2 s.now) }
 {

@@ -1,6 +1,8 @@
 // SHA-2 as FIPS 180-4 defines it, for any width of word: the definitions (specs/Fips180), a hash under way
-// (specs/Hashing, specs/Feeds), the laws over the width that the crates sha256 and sha512 cite (proofs/Laws), and the
-// code that both share, over the word.
+// (specs/Hashing, specs/Feeds), the laws over the width (proofs/Laws), and the code, generic over the word.
+//
+// The crates sha256 and sha512 are this code at u32 and u64, with their constants: each lends its own to `State`, since
+// a trait cannot name an array whose length differs from one impl to the next.
 #![tactic(auto)]
 
 mod block;
@@ -8,7 +10,6 @@ mod rounds;
 mod state;
 mod word;
 
-pub use block::blocks;
 pub use rounds::Working;
 pub use state::{Fed, State};
 pub use word::Word;

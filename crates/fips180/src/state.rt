@@ -1,5 +1,8 @@
-// A hash under way, over the word and the size of a block: feeding it, and its last blocks.
-ghost use Rattle.std.specs.Prelude.{◌≡◌, ◌+◌, ◌*◌, ◌<◌, ◌^◌, ◌++◌, length, map};
+// A hash under way, over the word: feeding it, and its last blocks.
+//
+// The const parameters are sizes that follow from the word, as the contracts require: B a block's bytes, N the rounds,
+// D two blocks, R the digest. An array's length may be a const parameter, and not a constant of the trait.
+ghost use Rattle.std.specs.Prelude.{◌≡◌, ◌+◌, ◌*◌, ◌<◌, ◌^◌, length, map};
 ghost use Rattle.fips180.specs.Fips180 as fips180;
 ghost use Rattle.fips180.specs.Hashing as hashing;
 ghost use Rattle.fips180.specs.State.{held, held_fed};
@@ -89,13 +92,14 @@ impl<W: Word, const B: usize> State<W, B> {
         }
     }
 
-    // The hash value of all that came: the padding (5.1.1 and 5.1.2), and the last blocks, of which there are one or
-    // two.
-    pub fn close<const N: usize, const D: usize>(self, k: &[W; N]) -> [W; 8]
+    // The digest of all that came: the padding (5.1.1 and 5.1.2), the last blocks, of which there are one or two, and
+    // the words as bytes.
+    pub fn finish<const N: usize, const D: usize, const R: usize>(self, k: &[W; N]) -> [u8; R]
         requires block { B ≡ fips180.block_bytes W.sha2 }
         requires two { D ≡ 2 * B }
+        requires words { R ≡ 8 * W.sha2.bytes }
         requires k_value { map W.number k.now ≡ W.sha2.constants }
-        ensures { map W.number result ≡ fips180.hash_blocks W.sha2 (held W.number self).chain (fips180.parse W.sha2 (hashing.pending W.sha2 (held W.number self) ++ fips180.padding W.sha2 self.total)) }
+        ensures { result ≡ hashing.finish W.sha2 (held W.number self) }
     {
         let total = self.total as usize;
         let used = total % B;
@@ -108,6 +112,19 @@ impl<W: Word, const B: usize> State<W, B> {
         let end = (used + B / 8) / B * B + B;
         let at = end - 8;
         slices::copy(&mut room[at..], &bits);
-        blocks(self.chain, &room[..end], k).words()
+        digest(blocks(self.chain, &room[..end], k).words())
     }
+}
+
+// The words of a hash value as bytes.
+fn digest<W: Word, const R: usize>(c: [W; 8]) -> [u8; R]
+    requires { R ≡ 8 * W.sha2.bytes }
+    ensures { result ≡ fips180.digest W.sha2 (map W.number c) }
+{
+    let mut out = [0u8; R];
+    let room = &mut out[..];
+    for i in 0..8 {
+        c[i].write(&mut room[i * (R / 8)..]);
+    }
+    out
 }

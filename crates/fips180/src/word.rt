@@ -1,6 +1,7 @@
-// FIPS 180-4, 4.1.2 and 4.1.3: what SHA-256 and SHA-512 do otherwise, as functions on their words.
-ghost use Rattle.std.specs.Prelude.{◌≡◌, ◌+◌, ◌*◌, ◌≤◌, length, ℕ};
-ghost use Rattle.words.specs.Endian.{be};
+// FIPS 180-4, 4.1.2 and 4.1.3: the words of SHA-256 and of SHA-512, with all that the two do differently.
+ghost use Rattle.std.specs.Prelude.{◌≡◌, ◌+◌, ◌*◌, ◌≤◌, length, take, ℕ};
+ghost use Rattle.slices.specs.Over.{over};
+ghost use Rattle.words.specs.Endian.{be, be_bytes};
 ghost use Rattle.words.specs.Word as word;
 ghost use Rattle.fips180.specs.Fips180 as fips180;
 ghost use Rattle.fips180.specs.Fips180.{Sha2};
@@ -35,6 +36,10 @@ pub trait Word: Copy {
     fn read(block: &[u8], i: usize) -> Self
         requires { i * sha2.bytes + sha2.bytes ≤ length block.now }
         ensures { number result ≡ be sha2.bytes block.now (i * sha2.bytes) };
+
+    // The bytes of a word, written over the front of `out`.
+    fn write(self, out: &mut [u8])
+        ensures { out.new ≡ over (take (length out.old) (be_bytes sha2.bytes (number self))) out.old };
 
     // The sum of two words.
     fn plus(self, other: Self) -> Self
@@ -84,6 +89,10 @@ impl Word for u32 {
         half_at(block, i * 4)
     }
 
+    fn write(self, out: &mut [u8]) {
+        slices::copy(out, &words::be::bytes32(self));
+    }
+
     fn plus(self, other: u32) -> u32 {
         plus32(self, other)
     }
@@ -97,19 +106,19 @@ impl Word for u32 {
     }
 
     fn big_sigma0(self) -> u32 {
-        ((self >> 2) | (self << 30)) ^ ((self >> 13) | (self << 19)) ^ ((self >> 22) | (self << 10))
+        self.rotate_right(2) ^ self.rotate_right(13) ^ self.rotate_right(22)
     }
 
     fn big_sigma1(self) -> u32 {
-        ((self >> 6) | (self << 26)) ^ ((self >> 11) | (self << 21)) ^ ((self >> 25) | (self << 7))
+        self.rotate_right(6) ^ self.rotate_right(11) ^ self.rotate_right(25)
     }
 
     fn small_sigma0(self) -> u32 {
-        ((self >> 7) | (self << 25)) ^ ((self >> 18) | (self << 14)) ^ (self >> 3)
+        self.rotate_right(7) ^ self.rotate_right(18) ^ (self >> 3)
     }
 
     fn small_sigma1(self) -> u32 {
-        ((self >> 17) | (self << 15)) ^ ((self >> 19) | (self << 13)) ^ (self >> 10)
+        self.rotate_right(17) ^ self.rotate_right(19) ^ (self >> 10)
     }
 }
 
@@ -131,6 +140,10 @@ impl Word for u64 {
         (half_at(block, i * 8) as u64) * 0x1_0000_0000 + (half_at(block, i * 8 + 4) as u64)
     }
 
+    fn write(self, out: &mut [u8]) {
+        slices::copy(out, &words::be::bytes64(self));
+    }
+
     fn plus(self, other: u64) -> u64 {
         plus64(self, other)
     }
@@ -144,22 +157,18 @@ impl Word for u64 {
     }
 
     fn big_sigma0(self) -> u64 {
-        ((self >> 28) | (self << 36))
-            ^ ((self >> 34) | (self << 30))
-            ^ ((self >> 39) | (self << 25))
+        self.rotate_right(28) ^ self.rotate_right(34) ^ self.rotate_right(39)
     }
 
     fn big_sigma1(self) -> u64 {
-        ((self >> 14) | (self << 50))
-            ^ ((self >> 18) | (self << 46))
-            ^ ((self >> 41) | (self << 23))
+        self.rotate_right(14) ^ self.rotate_right(18) ^ self.rotate_right(41)
     }
 
     fn small_sigma0(self) -> u64 {
-        ((self >> 1) | (self << 63)) ^ ((self >> 8) | (self << 56)) ^ (self >> 7)
+        self.rotate_right(1) ^ self.rotate_right(8) ^ (self >> 7)
     }
 
     fn small_sigma1(self) -> u64 {
-        ((self >> 19) | (self << 45)) ^ ((self >> 61) | (self << 3)) ^ (self >> 6)
+        self.rotate_right(19) ^ self.rotate_right(61) ^ (self >> 6)
     }
 }

@@ -1,12 +1,12 @@
 // SHA-256 (FIPS 180-4) as a state by value: start, feed in parts, finish; and a whole message in one call.
 //
-// The contracts cite fips180's Hashing. proofs/Parts has the theorem: a finish after any feeds is the standard's hash of
-// the accepted parts joined. Refusal: a feed that would take the message past its limit, with the state as it was.
-// Every value of the struct is a state; how many bytes of the buffer are pending follows from the total.
+// The code is fips180's, at this word; the contracts cite its Hashing. proofs/Parts has the theorem: a finish after any
+// feeds is the standard's hash of the accepted parts joined. Refusal: a feed that would take the message past its limit,
+// with the state as it was. Every value of the struct is a state; how many bytes of the buffer are pending follows from
+// the total.
 #![tactic(auto)]
 
 ghost use Rattle.std.specs.Prelude.{◌≡◌};
-ghost use Rattle.fips180.specs.Fips180 as fips180;
 ghost use Rattle.fips180.specs.State.{held};
 ghost use Rattle.sha256.specs.State as state;
 
@@ -97,21 +97,8 @@ impl Sha256 {
     pub fn finish(self) -> [u8; 32]
         ensures { result ≡ state.finished self }
     {
-        digest(self.state().close::<64, 128>(&tables::K))
+        self.state().finish::<64, 128, 32>(&tables::K)
     }
-}
-
-// The words of a hash value as bytes.
-fn digest(c: [u32; 8]) -> [u8; 32]
-    ensures { result ≡ fips180.digest fips180.sha256 c }
-{
-    let mut out = [0u8; 32];
-    for i in 0..8 {
-        let b = words::be::bytes32(c[i]);
-        let at = i * 4;
-        slices::copy(&mut out[at..], &b);
-    }
-    out
 }
 
 // The digest of a whole message.

@@ -46,20 +46,19 @@ module _ (p : Sha2) where
       rw (add-one, suc-mul, digest-suc c i h)
       (cc (e₁, e₂, e₃, take_over (take (i * p.bytes) out ++ b) out (i * p.bytes + p.bytes) k))
 
-  -- m is the array from word i on, as a copy of the word's bytes into it left it
-  pub digest-turn : (c out : List ℕ) (i : ℕ) {b m : List ℕ} → length c ≡ 8 → length out ≡ 8 * p.bytes → i < 8
-      → take (i * p.bytes) out ≡ digest p (take i c) → b ≡ be_bytes p.bytes (get_or c i 0)
-      → m ≡ over (take (length (take (8 * p.bytes - i * p.bytes) (drop (i * p.bytes) out))) b)
-      (take (8 * p.bytes - i * p.bytes) (drop (i * p.bytes) out))
-      → (length (put_mid (i * p.bytes) (8 * p.bytes - i * p.bytes) out m) ≡ 8 * p.bytes)
-      × (take ((i + 1) * p.bytes) (put_mid (i * p.bytes) (8 * p.bytes - i * p.bytes) out m)
-      ≡ digest p (take (i + 1) c))
-  digest-turn c out i {b} {m} long whole h e₁ e₂ e₃ =
+  -- m is the array from word i on, as a copy of the word's bytes into it left it; n is the number of bytes of a word
+  pub digest-turn : (c out : List ℕ) (i n : ℕ) {b m : List ℕ} → n ≡ p.bytes → length c ≡ 8 → length out ≡ 8 * p.bytes
+      → i < 8 → take (i * p.bytes) out ≡ digest p (take i c) → b ≡ be_bytes p.bytes (get_or c i 0)
+      → m ≡ over (take (length (take (length out - i * n) (drop (i * n) out))) b) (take (length out - i * n) (drop (i * n) out))
+      → (length (put_mid (i * n) (length out - i * n) out m) ≡ 8 * p.bytes)
+      × (take ((i + 1) * p.bytes) (put_mid (i * n) (length out - i * n) out m) ≡ digest p (take (i + 1) c))
+  digest-turn c out i n {b} {m} is long whole h e₁ e₂ e₃ =
       let v : length b ≡ p.bytes = ap length e₂ ∙ length-be_bytes p.bytes (get_or c i 0) in
       let j : i * p.bytes + p.bytes ≤ 8 * p.bytes = rw suc-mul at (mul-le-mul_right p.bytes h) in
-      let n = length-take-le (i * p.bytes) out (omega arith) in
+      let k = length-take-le (i * p.bytes) out (omega arith) in
       let fits : length (take (i * p.bytes) out ++ b) ≤ length out = simp length-append (omega arith) in
-      let e = over_behind_fits b out m (i * p.bytes) (8 * p.bytes - i * p.bytes) (omega arith) (omega arith) e₃ in (
+      let e = over_behind_fits b out m (i * p.bytes) (length out - i * p.bytes) (omega arith) (omega arith) (rw is at e₃) in
+      rw is (
         ap length e ∙ length_over (take (i * p.bytes) out ++ b) out fits ∙ whole,
         digest_more c out i (omega arith) (omega arith) e₁ e₂ e,
       )

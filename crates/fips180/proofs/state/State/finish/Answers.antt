@@ -1,8 +1,10 @@
--- `fips180::state::State::close` meets its contract. Assumes nothing.
-use Rattle.std.proofs.Common.{◌≡◌, ◌∙◌, length, arith, rules}
+-- `fips180::state::State::finish` meets its contract. Assumes nothing.
+use Rattle.std.proofs.Common.{◌≡◌, ap, ◌∙◌, length, arith, rules}
+use Rattle.fips180.specs.Fips180.{digest}
+use Rattle.fips180.specs.Hashing.{finish}
 use Rattle.fips180.specs.State.{held}
 use Rattle.fips180.proofs.Laws.Last as last
-use Rattle.fips180.proofs.state.State.close.Goals as goal
+use Rattle.fips180.proofs.state.State.finish.Goals as goal
 
 pub whole_as_slice-room : goal.whole_as_slice-room
 whole_as_slice-room g c = omega (arith, g.met.W.Word.laws.most)
@@ -30,9 +32,11 @@ slice_bounds-blocks-end g c =
     c.bytes64-bits.ensures c.copy-2.ensures
 
 pub returns : goal.returns
+unfolding finish
 returns g c =
     let p = g.W.Word.sha2 in
     let h = held g.W.Word.number c.args.self in
     let long : length c.args.self.buffer ≡ g.row.B = search rules in
-    last.close_is p g.met.W.Word.laws.least h g.row.B c.requires.block long g.row.D c.requires.two c.copy.ensures
-    c.bytes64-bits.ensures c.copy-2.ensures (omega arith) (c.words.ensures ∙ c.blocks-2.ensures)
+    c.digest.ensures
+    ∙ ap (digest p) (last.close_is p g.met.W.Word.laws.least h g.row.B c.requires.block long g.row.D c.requires.two
+    c.copy.ensures c.bytes64-bits.ensures c.copy-2.ensures (omega arith) (c.words.ensures ∙ c.blocks-2.ensures))
