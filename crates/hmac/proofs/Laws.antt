@@ -1,7 +1,8 @@
 -- Laws of tags: RFC 2104's tag from states, over both hash algorithms.
 --
 -- In order:
---   length-xor_each, xor_each_more             each byte XOR a byte: its length, a turn of the loop
+--   length-xor_each, xor_each_map              each byte XOR a byte: its length, as a map
+--   xor_each_more                              a turn of the loop that writes it over the bytes
 --   length-key_block, key_block_short, -long   key blocks, and how code lays them
 --   begun_is                                 a start's parts
 --   tag-hash, hmac_of_parts                  the theorem
@@ -9,15 +10,15 @@
 -- Assumes nothing.
 use mathlib.Core.Path.{◌≡◌, refl, sym, ap, ◌∙◌}
 use mathlib.Core.Bool.{Bool, true, false, cond}
-use mathlib.Core.List.{List, [], ◌∷◌, ◌++◌}
+use mathlib.Core.List.{List, [], ◌∷◌, ◌++◌, map}
 use Prim.Native.Nat.{ℕ, suc, ◌+◌, ◌*◌, ◌≤◌, ◌<◌}
 use native.Mathlib.Nat.{zero-add}
-use native.Mathlib.Numerals.{add-one}
 use native.Mathlib.Omega.{arith}
 use lib.Bits.{bit_xor}
 use lib.Dec.{leb}
-use lib.ListN.{length, take, set, get_or, replicate, length-replicate}
-use lib.Seq.{take-suc, take-suc-set}
+use lib.ListN.{length, take, drop, set, get_or, replicate, length-append, length-take, length-drop, length-replicate}
+use Rattle.std.proofs.lemmas.List.{length-map, get_or_default}
+use Rattle.std.proofs.lemmas.List.Edits.{map_over_more}
 use borrow.Author.Tests.{le-leb, lt-leb, leb-true}
 use Rattle.slices.specs.Over.{over}
 use Rattle.slices.proofs.Laws.Over.{length_over, over_fits}
@@ -38,19 +39,17 @@ unfolding xor_each
 length-xor_each c [] = refl
 length-xor_each c (x ∷ l) = ap suc (length-xor_each c l)
 
-xor_each-append : (c : ℕ) (l m : List ℕ) → xor_each c (l ++ m) ≡ xor_each c l ++ xor_each c m
+pub xor_each_map : (c : ℕ) (b : List ℕ) → xor_each c b ≡ map (λ (x : ℕ). bit_xor x c) b
 unfolding xor_each
-xor_each-append c [] m = refl
-xor_each-append c (x ∷ l) m = ap (λ (t : List ℕ). bit_xor x c ∷ t) (xor_each-append c l m)
+xor_each_map c [] = refl
+xor_each_map c (x ∷ b) = ap (λ (l : List ℕ). bit_xor x c ∷ l) (xor_each_map c b)
 
-xor_each_one : (c x : ℕ) → xor_each c (x ∷ []) ≡ bit_xor x c ∷ []
-unfolding xor_each
-xor_each_one c x = refl
-
-pub xor_each_more : (c : ℕ) (b out : List ℕ) (i : ℕ) → i < length b → i < length out → take i out ≡ xor_each c (take i b)
-    → take (i + 1) (set out i (bit_xor (get_or b i 0) c)) ≡ xor_each c (take (i + 1) b)
-xor_each_more c b out i h l e =
-    rw (add-one, take-suc-set out i (bit_xor (get_or b i 0) c) l, take-suc b i 0 h, xor_each-append, xor_each_one, e)
+pub xor_each_more : (c : ℕ) (b out : List ℕ) (i : ℕ) → i < length b
+    → out ≡ map (λ (x : ℕ). bit_xor x c) (take i b) ++ drop i b
+    → set out i (bit_xor (get_or out i 0) c) ≡ map (λ (x : ℕ). bit_xor x c) (take (i + 1) b) ++ drop (i + 1) b
+xor_each_more c b out i h e =
+    let l : i < length out = rw e (simp (length-append, length-map, length-take, length-drop) (omega arith)) in
+    map_over_more (λ (x : ℕ). bit_xor x c) b out i (get_or out i 0) h e (get_or_default out i 0 (get_or out i 0) l)
 
 module _ (p : Sha2) (words : length p.iv ≡ 8) where
   length-key : (k : List ℕ) (t : Bool) → leb (length k) (block_bytes p) ≡ t → length (cond t k (hash p k)) ≤ block_bytes p

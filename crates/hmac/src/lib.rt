@@ -39,11 +39,9 @@ pub struct Tagged {
 fn xor_each(b: [u8; 64], c: u8) -> [u8; 64]
     ensures { result ≡ rfc2104.xor_each c b }
 {
-    let mut out = [0u8; 64];
-    let mut i: usize = 0;
-    while i < 64 {
-        out[i] = b[i] ^ c;
-        i += 1;
+    let mut out = b;
+    for x in out.iter_mut() {
+        *x ^= c;
     }
     out
 }
