@@ -1,6 +1,6 @@
 -- Four rounds (6.2.2 and 6.4.2, step 3) in a row, as an unrolled loop does them.
 --
--- In order: four_rounds_is (four steps are these), rounds_four (and four of all the rounds).
+-- In order: rounds_four (four of all the rounds).
 -- Assumes nothing.
 use mathlib.Core.Path.{◌≡◌}
 use mathlib.Core.List.{List}
@@ -14,11 +14,6 @@ module _ (p : Sha2) (ks ws s : List ℕ) where
   rounds-suc : (i j : ℕ) → i ≡ suc j → rounds p ks ws i s ≡ round p (rounds p ks ws j s) (get_or ks j 0) (get_or ws j 0)
   unfolding rounds
   rounds-suc i j e = rw e
-
-  pub four_rounds_is : (j : ℕ) {t u v x : List ℕ} → t ≡ round p s (get_or ks j 0) (get_or ws j 0)
-      → u ≡ round p t (get_or ks (j + 1) 0) (get_or ws (j + 1) 0) → v ≡ round p u (get_or ks (j + 2) 0) (get_or ws (j + 2) 0)
-      → x ≡ round p v (get_or ks (j + 3) 0) (get_or ws (j + 3) 0) → x ≡ four_rounds p ks ws j s
-  four_rounds_is j h₀ h₁ h₂ h₃ = cc
 
   pub rounds_four : (j : ℕ) → rounds p ks ws (j + 4) s ≡ four_rounds p ks ws j (rounds p ks ws j s)
   rounds_four j =

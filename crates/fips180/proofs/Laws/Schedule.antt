@@ -1,14 +1,14 @@
 -- The message schedule (6.2.2 and 6.4.2, step 1), a word at a time.
 --
--- In order: block_words_more (the block's own words), grow_more, grow_all (the words after them).
+-- In order: block_words_more (the block's own words), grow_more (the words after them).
 -- Assumes nothing.
-use mathlib.Core.Path.{◌≡◌, sym, ap, ◌∙◌}
+use mathlib.Core.Path.{◌≡◌}
 use mathlib.Core.List.{List}
 use Prim.Native.Nat.{ℕ, suc, ◌+◌, ◌-◌, ◌*◌, ◌≤◌, ◌<◌}
 use native.Mathlib.Omega.{arith}
 use native.Mathlib.Numerals.{add-one}
 use lib.ListN.{length, get_or, take, set}
-use lib.Seq.{take-suc-set, length-take-le, get_or-take, take_all}
+use lib.Seq.{take-suc-set, length-take-le, get_or-take}
 use Rattle.words.specs.Endian.{be}
 use Rattle.fips180.specs.Fips180.{Sha2, block_words, next_word, word_after, grow}
 
@@ -41,9 +41,3 @@ module _ (p : Sha2) where
       let n : i + 1 - 16 ≡ suc (i - 16) = omega arith in
       let long : i ≤ length w = omega arith in
       rw (n, add-one, take-suc-set w i v, ev, ← word_after_is w i h₁ long, e)
-
-  pub grow_all : (ws w : List ℕ) (i n : ℕ) → i ≡ n → length w ≡ n → take i w ≡ grow p (i - 16) ws → w
-      ≡ grow p (n - 16) ws
-  grow_all ws w i n e l h =
-      let short : length w ≤ i = omega arith in
-      sym (take_all i w short) ∙ h ∙ ap (λ (m : ℕ). grow p (m - 16) ws) e

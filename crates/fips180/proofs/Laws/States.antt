@@ -3,7 +3,7 @@
 -- In order:
 --   rest_block                         one whole block leaves no rest
 --   state, state_same                  a state by its parts
---   filled, length-filled              the buffer after the list is copied behind the pending bytes
+--   filled                             the buffer after the list is copied behind the pending bytes
 --   absorbed_short, absorbed_long      a list that fills no block, and one that does
 --   absorbed_few, absorbed_many        the same of a buffer whose length is not written out
 -- Not here: what the states mean (Feeding), the last blocks (Last).
@@ -13,12 +13,12 @@ use mathlib.Core.List.{List, [], ◌++◌, append_assoc}
 use Prim.Native.Nat.{ℕ, ◌+◌, ◌-◌, ◌*◌, ◌/◌, ◌%◌, ◌≤◌, ◌<◌}
 use native.Mathlib.Nat.{mod-lt}
 use native.Mathlib.Omega.{arith}
-use lib.ListN.{length, take, drop, replicate, length-append, length-take, length-drop, length-replicate, take-append-drop, drop_of_length-le}
+use lib.ListN.{length, take, drop, replicate, length-append, length-drop, length-replicate, take-append-drop, drop_of_length-le}
 use lib.Seq.{take_all, length-take-le, drop-drop}
 use borrow.Author.Tests.{lt-ltb, le-ltb}
 use borrow.Rule.Slice.PartMut.{put_mid}
 use Rattle.slices.specs.Over.{over}
-use Rattle.slices.proofs.Laws.Over.{over_all, over_behind, length_over}
+use Rattle.slices.proofs.Laws.Over.{over_all, over_behind}
 use Rattle.slices.proofs.Laws.Parts.{part-tail}
 use Rattle.fips180.specs.Fips180.{Sha2, block_bytes, parse, hash_blocks}
 use Rattle.fips180.specs.Hashing.{Hashing, pending, rest, kept, absorbed}
@@ -50,16 +50,6 @@ module _ (p : Sha2) (pos : 0 < block_bytes p) (h : Hashing) (s : List ℕ) (long
     filled =
         let k = mod-lt h.total pos in
         over_behind s h.buffer m (h.total % block_bytes p) need (omega arith) (omega arith) copied
-
-    pub length-filled : length (put_mid (h.total % block_bytes p) need h.buffer m) ≡ block_bytes p
-    length-filled =
-        let k = mod-lt h.total pos in
-        let i : h.total % block_bytes p ≤ length h.buffer = omega arith in
-        let front = length-take-le (h.total % block_bytes p) h.buffer i in
-        let fits : length (take (h.total % block_bytes p) h.buffer ++ take need s) ≤ length h.buffer =
-        simp (length-append, length-take) (omega arith) in
-        ap length filled ∙ length_over (take (h.total % block_bytes p) h.buffer ++ take need s) h.buffer fits
-        ∙ long
 
   length-joined : length (pending p h ++ s) ≡ h.total % block_bytes p + length s
   unfolding pending
