@@ -28,10 +28,8 @@ fn load(m: &mut [u64; 16], s: &[u8])
     requires in_bounds { 128 ≤ length s.now }
     ensures { m.new ≡ rfc7693.block_words 16 s.now }
 {
-    let mut i: usize = 0;
-    while i < 16 {
-        m[i] = word_at(s, i * 8);
-        i += 1;
+    for (i, word) in m.iter_mut().enumerate() {
+        *word = word_at(s, i * 8);
     }
 }
 
@@ -107,11 +105,10 @@ pub(crate) fn blocks(h: [u64; 8], s: &[u8], t: usize, sigma: &[u8; 160]) -> [u64
     ensures { result ≡ rfc7693.chain (rfc7693.blocks_before (length s.now)) h t s.now }
 {
     let mut c = h;
-    let mut at: usize = 0;
-    while 128 < s.len() - at {
+    for i in 0..crate::blocks_before(s.len()) {
+        let at = 128 * i;
         let d = compress(c, &s[at..], (t + at + 128) as u64, false, sigma);
         c = d;
-        at += 128;
     }
     c
 }

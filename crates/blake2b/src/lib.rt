@@ -36,10 +36,7 @@ pub struct Fed {
 fn blocks_before(n: usize) -> usize
     ensures { result ≡ rfc7693.blocks_before n }
 {
-    if n == 0 {
-        return 0;
-    }
-    (n - 1) / 128
+    n.saturating_sub(1) / 128
 }
 
 // How many of n bytes are in the last block.
@@ -113,13 +110,7 @@ impl Blake2b {
     {
         let total = self.total as usize;
         let most = refusals::limits::MESSAGE_LIMIT;
-        if most < total {
-            return Fed {
-                outcome: Outcome::Refused(Refusal::TooLong),
-                next: self,
-            };
-        }
-        if most - total < s.len() {
+        if most < total || most - total < s.len() {
             return Fed {
                 outcome: Outcome::Refused(Refusal::TooLong),
                 next: self,
@@ -149,12 +140,8 @@ fn serialize(c: [u64; 8]) -> [u8; 64]
     ensures { result ≡ rfc7693.serialize c }
 {
     let mut out = [0u8; 64];
-    let mut i: usize = 0;
-    while i < 8 {
-        let b = words::le::bytes64(c[i]);
-        let at = i * 8;
-        slices::copy(&mut out[at..], &b);
-        i += 1;
+    for (i, word) in c.iter().enumerate() {
+        slices::put(&mut out, i * 8, &words::le::bytes64(*word));
     }
     out
 }

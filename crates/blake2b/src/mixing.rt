@@ -118,9 +118,7 @@ pub(crate) fn rounds(v: &mut [u64; 16], m: &[u64; 16], sigma: &[u8; 160])
     requires sigma_value { sigma.now ≡ sigma_rows }
     ensures { v.new ≡ rfc7693.rounds 12 m.now v.old }
 {
-    let mut i: usize = 0;
-    while i < 12 {
+    for i in 0..12 {
         round(v, m, sigma, 16 * (i % 10));
-        i += 1;
     }
 }

@@ -22,8 +22,9 @@ use Rattle.words.specs.Endian.{le, le_bytes}
 use Rattle.words.proofs.Laws.Endian.{le-take, length-le_bytes}
 use Rattle.words.specs.Xor.{xors}
 use Rattle.words.proofs.Laws.Xors.{length-xors}
-use Rattle.slices.specs.Over.{over}
-use Rattle.slices.proofs.Laws.Over.{take_over}
+use Rattle.slices.specs.Over.{over, laid, put_at}
+use Rattle.slices.proofs.Laws.Over.{take_over, over_behind_fits}
+use Rattle.slices.proofs.Laws.Put.{put_at-tail}
 use Rattle.fips180.specs.Fips180.Constants.{iv512}
 use Rattle.fips180.proofs.Laws.Eight.{eight, eight_is}
 use Rattle.blake2b.specs.Rfc7693.{block_words, serialize, working, rounds, joined, compression_f}
@@ -145,16 +146,23 @@ pub serialize_none : (c out : List ℕ) → take (0 * 8) out ≡ serialize (take
 unfolding serialize
 serialize_none c out = refl
 
+-- a writing that has room, as one over the front
+put_at_over : (at : ℕ) (w d : List ℕ) → at + length w ≤ length d → put_at at w d ≡ over (take at d ++ w) d
+put_at_over at w d h =
+    let ys : List ℕ = laid w (take (length d - at) (drop at d)) in
+    sym (put_at-tail w d ys at (length d - at) (omega arith) refl refl)
+    ∙ over_behind_fits w d ys at (length d - at) h refl refl
+
 -- the bytes of word i, written behind those of the words before
-pub serialize_more : (c out : List ℕ) (i : ℕ) {b d : List ℕ} → i < length c → i * 8 ≤ length out
-    → take (i * 8) out ≡ serialize (take i c) → b ≡ le_bytes 8 (get_or c i 0) → d ≡ over (take (i * 8) out ++ b) out
+pub serialize_more : (c out b d : List ℕ) (i : ℕ) → i < length c → i * 8 + length b ≤ length out
+    → take (i * 8) out ≡ serialize (take i c) → b ≡ le_bytes 8 (get_or c i 0) → d ≡ put_at (i * 8) b out
     → take ((i + 1) * 8) d ≡ serialize (take (i + 1) c)
-serialize_more c out i {b} {d} h l e₁ e₂ e₃ =
-    let v : length b ≡ 8 = ap length e₂ ∙ length-le_bytes 8 (get_or c i 0) in
-    let n = length-take-le (i * 8) out l in
-    let k : length (take (i * 8) out ++ b) ≡ i * 8 + 8 = simp length-append (omega arith) in
+serialize_more c out b d i h l e g k =
+    let n = length-take-le (i * 8) out (omega arith) in
+    let v : length b ≡ 8 = ap length g ∙ length-le_bytes 8 (get_or c i 0) in
+    let j : length (take (i * 8) out ++ b) ≡ i * 8 + 8 = simp length-append (omega arith) in
     rw (add-one, suc-mul, serialize-suc c i h)
-    (cc (e₁, e₂, e₃, take_over (take (i * 8) out ++ b) out (i * 8 + 8) k))
+    (cc (e, g, k, put_at_over (i * 8) b out l, take_over (take (i * 8) out ++ b) out (i * 8 + 8) j))
 
 pub serialize_all : (c out : List ℕ) (i n : ℕ) → length c ≤ i → length out ≤ n → i * 8 ≡ n
     → take (i * 8) out ≡ serialize (take i c)

@@ -1,13 +1,9 @@
 -- `blake2b::serialize` meets its contract. The invariant: the bytes of the first i words stand. Assumes nothing.
 use mathlib.Core.Path.{◌≡◌}
-use Prim.Native.Nat.{◌-◌, ◌*◌, ◌≤◌}
+use Prim.Native.Nat.{◌*◌}
 use lib.ListN.{length, take}
 use Rattle.blake2b.specs.Rfc7693.{serialize}
 use Rattle.blake2b.proofs.serialize.Given as goal
 
 abbrev pub invariant-loop-i : goal.invariant-loop-i
-invariant-loop-i l =
-    (l.i ≤ 8) × ((length l.out ≡ 64) × (take (l.i * 8) l.out ≡ serialize (take l.i l.c)))
-
-abbrev pub decreases-loop-i : goal.decreases-loop-i
-decreases-loop-i l = 8 - l.i
+invariant-loop-i l = (length l.out ≡ 64) × (take (l.i * 8) l.out ≡ serialize (take l.i l.fn.c))

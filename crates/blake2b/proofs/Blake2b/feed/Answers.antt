@@ -15,13 +15,6 @@ returns-then-most-total c =
     let l : message_limit < a.self.total + length a.s.now = omega arith in
     rw (lt-leb _ _ l)
 
-pub returns-then-most-total-2 : goal.returns-then-most-total-2
-unfolding fed message_limit
-returns-then-most-total-2 c =
-    let a = c.args in
-    let l : message_limit < a.self.total + length a.s.now = omega arith in
-    rw (lt-leb _ _ l)
-
 pub absorb-next-requires : goal.absorb-next-requires
 absorb-next-requires c = search rules
 
