@@ -4,7 +4,6 @@ ghost use Rattle.std.specs.Int.Bits.{bit_xor};
 ghost use Rattle.words.specs.Endian.{le};
 ghost use Rattle.fips180.specs.Fips180.Constants.{iv512};
 ghost use Rattle.blake2b.specs.Rfc7693 as rfc7693;
-ghost use Rattle.blake2b.specs.Rfc7693.Constants.{sigma_rows};
 
 // The number of four bytes at a place. (`words::le::u32_at` would test the length for each word.)
 fn half_at(s: &[u8], at: usize) -> u32
@@ -86,28 +85,26 @@ fn joined(h: [u64; 8], v: [u64; 16]) -> [u64; 8]
 }
 
 // 3.2: F on the block that `s` begins with.
-pub(crate) fn compress(h: [u64; 8], s: &[u8], t: u64, f: bool, sigma: &[u8; 160]) -> [u64; 8]
+pub(crate) fn compress(h: [u64; 8], s: &[u8], t: u64, f: bool) -> [u64; 8]
     requires in_bounds { 128 ≤ length s.now }
-    requires sigma_value { sigma.now ≡ sigma_rows }
     ensures { result ≡ rfc7693.compression_f h s.now t f }
 {
     let mut m = [0u64; 16];
     load(&mut m, s);
     let mut v = working(h, t, f);
-    crate::mixing::rounds(&mut v, &m, sigma);
+    crate::mixing::rounds(&mut v, &m);
     joined(h, v)
 }
 
 // 3.3: h after every block of `s` but the last, `t` bytes having come before.
-pub(crate) fn blocks(h: [u64; 8], s: &[u8], t: usize, sigma: &[u8; 160]) -> [u64; 8]
+pub(crate) fn blocks(h: [u64; 8], s: &[u8], t: usize) -> [u64; 8]
     requires s_bound { t + length s.now < 2 ^ 32 }
-    requires sigma_value { sigma.now ≡ sigma_rows }
     ensures { result ≡ rfc7693.chain (rfc7693.blocks_before (length s.now)) h t s.now }
 {
     let mut c = h;
     for i in 0..crate::blocks_before(s.len()) {
         let at = 128 * i;
-        let d = compress(c, &s[at..], (t + at + 128) as u64, false, sigma);
+        let d = compress(c, &s[at..], (t + at + 128) as u64, false);
         c = d;
     }
     c

@@ -91,9 +91,8 @@ impl Blake2b {
                 total: next,
             };
         }
-        let sigma = tables::SIGMA;
-        let c = block::compress(chain, &buffer, (total + room) as u64, false, &sigma);
-        let d = block::blocks(c, &s[room..], total + room, &sigma);
+        let c = block::compress(chain, &buffer, (total + room) as u64, false);
+        let d = block::blocks(c, &s[room..], total + room);
         let at = room + 128 * blocks_before(n - room);
         let mut rest = [0u8; 128];
         slices::copy(&mut rest, &s[at..]);
@@ -130,7 +129,7 @@ impl Blake2b {
         let total = self.total as u64;
         let chain = self.chain;
         let last = self.last_block();
-        let c = block::compress(chain, &last, total, true, &tables::SIGMA);
+        let c = block::compress(chain, &last, total, true);
         serialize(c)
     }
 }

@@ -4,7 +4,7 @@
 --   xored_word                      a word of the exclusive or of a block and a slice's front
 --   last_lt                         the last block of a lane stands in the memory
 --   column_none, column_more        no lane yet, and one lane more
---   bytes_more                      the bytes of one word more
+-- Not here: the bytes of one word more (blake2b: Laws.Block).
 -- Assumes nothing.
 use mathlib.Core.Path.{◌≡◌, refl, sym, ap, ◌∙◌}
 use mathlib.Core.List.{List, ◌++◌}
@@ -45,16 +45,3 @@ pub column_more : (f : Figures) (m c d : List ℕ) (i at k : ℕ) → c ≡ last
     → d ≡ last_column f m (i + 1)
 unfolding last_column
 column_more f m c d i at k e a h g = rw (add-one, ← e, ← a) (g ∙ rw (h, part-tail at m))
-
--- a writing that has room, as one over the front
-put_at_over : (at : ℕ) (w d : List ℕ) → at + length w ≤ length d → put_at at w d ≡ over (take at d ++ w) d
-put_at_over at w d h =
-    let ys : List ℕ = laid w (take (length d - at) (drop at d)) in
-    sym (put_at-tail w d ys at (length d - at) (omega arith) refl refl)
-    ∙ over_behind_fits w d ys at (length d - at) h refl refl
-
-pub bytes_more : (c out b d : List ℕ) (i : ℕ) → i < length c → i * 8 + length b ≤ length out
-    → take (i * 8) out ≡ serialize (take i c) → b ≡ le_bytes 8 (get_or c i 0) → d ≡ put_at (i * 8) b out
-    → take ((i + 1) * 8) d ≡ serialize (take (i + 1) c)
-bytes_more c out b d i h l e g k =
-    serialize_more c out i h (omega arith) e g (k ∙ put_at_over (i * 8) b out l)

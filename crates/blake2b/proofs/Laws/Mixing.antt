@@ -2,40 +2,21 @@
 --
 -- In order:
 --   sigma_rows-lt                      every entry of SIGMA is the place of a word
---   mix_is, mixing_g_is, round_on_is      these steps are a mixing, and these eight a round
+--   mixing_g_is, round_on_is              these steps are G, and these eight a round
 --   rounds_more                   one more round
 --   length-round_on, length-rounds sixteen words stay sixteen
 -- Assumes nothing.
-use mathlib.Core.Path.{◌≡◌, refl, ap, ◌∙◌}
+use mathlib.Core.Path.{◌≡◌, refl, ◌∙◌}
 use mathlib.Core.List.{List}
 use Prim.Native.Nat.{ℕ, zero, suc, ◌+◌, ◌*◌, ◌%◌, ◌<◌}
 use native.Mathlib.Numerals.{add-one}
 use native.Mathlib.Omega.{arith}
-use lib.Bits.{bit_xor}
 use lib.Dec.{ltb, ltb→lt}
 use lib.ListN.{length, get_or, set, length-set}
-use Rattle.words.specs.Word.{plus, rotr}
 use Rattle.words.proofs.Laws.Tests.{every_at}
-use Rattle.blake2b.specs.Rfc7693.{Four, half, mix, mixing_g, round_on, rounds}
+use Rattle.blake2b.specs.Rfc7693.{Four, mix, mixing_g, round_on, rounds}
 use Rattle.blake2b.specs.Rfc7693.Constants.{sigma_rows}
 use Rattle.blake2b.specs.Working.{scheduled_g}
-
-half_is : (m n x : ℕ) (s : Four) {a₀ a b c d : ℕ} → a₀ ≡ plus 64 s.a s.b → a ≡ plus 64 a₀ x
-    → d ≡ rotr 64 m (bit_xor s.d a) → c ≡ plus 64 s.c d → b ≡ rotr 64 n (bit_xor s.b c)
-    → ◌≡◌ {A = Four} (record { a = a; b = b; c = c; d = d }) (half m n x s)
-unfolding half
-half_is m n x s e ea ed ec eb = rw (eb, ec, ed, ea, e)
-
-pub mix_is : (a b c d x y : ℕ) {a₀ a₁ b₁ c₁ d₁ a₂ a₃ b₂ c₂ d₂ : ℕ}
-    → a₀ ≡ plus 64 a b → a₁ ≡ plus 64 a₀ x → d₁ ≡ rotr 64 32 (bit_xor d a₁) → c₁ ≡ plus 64 c d₁
-    → b₁ ≡ rotr 64 24 (bit_xor b c₁)
-    → a₂ ≡ plus 64 a₁ b₁ → a₃ ≡ plus 64 a₂ y → d₂ ≡ rotr 64 16 (bit_xor d₁ a₃) → c₂ ≡ plus 64 c₁ d₂
-    → b₂ ≡ rotr 64 63 (bit_xor b₁ c₂)
-    → ◌≡◌ {A = Four} (record { a = a₃; b = b₂; c = c₂; d = d₂ }) (mix (record { a = a; b = b; c = c; d = d }) x y)
-unfolding mix
-mix_is a b c d x y {a₀} {a₁} {b₁} {c₁} {d₁} e₀ e₁ e₂ e₃ e₄ e₅ e₆ e₇ e₈ e₉ =
-    half_is 16 63 y (record { a = a₁; b = b₁; c = c₁; d = d₁ }) e₅ e₆ e₇ e₈ e₉
-    ∙ ap (half 16 63 y) (half_is 32 24 x (record { a = a; b = b; c = c; d = d }) e₀ e₁ e₂ e₃ e₄)
 
 pub mixing_g_is : (v : List ℕ) (a b c d : ℕ) {x y : ℕ} (x' y' : ℕ) (q : Four) → x ≡ x' → y ≡ y'
     → q ≡ mix (record { a = get_or v a 0; b = get_or v b 0; c = get_or v c 0; d = get_or v d 0 }) x y
@@ -79,6 +60,6 @@ length-rounds zero m v = refl
 length-rounds (suc n) m v = length-round_on m (16 * (n % 10)) (rounds n m v) ∙ length-rounds n m v
 
 -- every entry of SIGMA is the place of a word
-pub sigma_rows-lt : (s : List ℕ) (i : ℕ) → s ≡ sigma_rows → i < 160 → get_or s i 0 < 16
+pub sigma_rows-lt : (i : ℕ) → i < 160 → get_or sigma_rows i 0 < 16
 unfolding sigma_rows
-sigma_rows-lt s i e h = rw e (ltb→lt (get_or sigma_rows i 0) 16 (every_at (λ (j x : ℕ). ltb x 16) sigma_rows tt i h))
+sigma_rows-lt i h = ltb→lt (get_or sigma_rows i 0) 16 (every_at (λ (j x : ℕ). ltb x 16) sigma_rows tt i h)

@@ -5,8 +5,7 @@ use native.Mathlib.Omega.{arith}
 use lib.ListN.{length}
 use Rattle.slices.proofs.Laws.Put.{length-put_at}
 use Rattle.slices.proofs.Laws.Zeros.{zeros}
-use Rattle.blake2b.proofs.Laws.Block.{serialize_none, serialize_all}
-use Rattle.argon2.proofs.Laws.Last.{bytes_more}
+use Rattle.blake2b.proofs.Laws.Block.{serialize_none, serialize_more, serialize_all}
 use borrow.Author.Rules.{rules}
 use Rattle.argon2.proofs.last.bytes_of.Goals as goal
 
@@ -24,7 +23,7 @@ loop-i-preserved c =
       search rules,
       (
         ap length e ∙ length-put_at (l.i * 8) b l.out ∙ l.invariant.1.0,
-        bytes_more w l.out b _ l.i (omega arith) (omega arith) l.invariant.1.1 c.bytes64.ensures e,
+        serialize_more w l.out b _ l.i (omega arith) (omega arith) l.invariant.1.1 c.bytes64.ensures e,
       ),
     )
 

@@ -8,7 +8,6 @@ use borrow.Rule.Slice.PartMut.{put_mid}
 use Rattle.slices.specs.Over.{over}
 use Rattle.slices.proofs.Laws.Over.{over_behind}
 use Rattle.blake2b.specs.Rfc7693.{padded}
-use Rattle.blake2b.specs.Rfc7693.Constants.{sigma_rows}
 use Rattle.blake2b.specs.State.{waiting, pending}
 use Rattle.blake2b.specs.declared.Blake2b.{Blake2b}
 use Rattle.blake2b.proofs.Laws.States.{filled, absorbed_short, absorbed_long}
@@ -34,14 +33,6 @@ returns-then-n-room c =
     let n : length b ≡ 128 = search rules in
     absorbed_short h s long used (128 - used) u refl (omega arith)
     (laid h s b c.copy.new.out used long n u c.last_block-buffer.ensures c.copy.ensures)
-
-pub compress-c-requires-clause-sigma_value : goal.compress-c-requires-clause-sigma_value
-unfolding sigma_rows
-compress-c-requires-clause-sigma_value c = refl
-
-pub blocks-d-requires-clause-sigma_value : goal.blocks-d-requires-clause-sigma_value
-unfolding sigma_rows
-blocks-d-requires-clause-sigma_value c = refl
 
 pub returns : goal.returns
 returns c =

@@ -1,21 +1,11 @@
 -- `blake2b::Blake2b::finish` meets its contract. Assumes nothing.
-use mathlib.Core.Path.{refl, ap, ◌∙◌}
+use mathlib.Core.Path.{ap, ◌∙◌}
 use mathlib.Core.Bool.{true}
 use mathlib.Core.List.{List}
 use Prim.Native.Nat.{ℕ}
 use Rattle.blake2b.specs.Rfc7693.{compression_f, serialize}
-use Rattle.blake2b.specs.Rfc7693.Constants.{sigma_rows}
 use Rattle.blake2b.specs.State.{finished}
-use borrow.Author.Rules.{rules}
 use Rattle.blake2b.proofs.Blake2b.finish.Goals as goal
-
-pub compress-c-requires : goal.compress-c-requires
-unfolding sigma_rows
-compress-c-requires c =
-    record {
-      in_bounds = search rules;
-      sigma_value = refl;
-    }
 
 pub returns : goal.returns
 unfolding finished

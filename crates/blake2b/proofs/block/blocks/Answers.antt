@@ -14,8 +14,8 @@ loop-i-init c =
     let a = c.args in
     ap (λ (n : ℕ). chain (blocks_before (length a.s.now)) a.h n a.s.now) (add-zero a.t)
 
-pub compress-d-requires-clause-in_bounds : goal.compress-d-requires-clause-in_bounds
-compress-d-requires-clause-in_bounds c = rw part-tail (simp length-drop (omega arith))
+pub compress-d-requires : goal.compress-d-requires
+compress-d-requires c = rw part-tail (simp length-drop (omega arith))
 
 pub loop-i-preserved : goal.loop-i-preserved
 loop-i-preserved c =
