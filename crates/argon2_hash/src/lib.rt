@@ -49,14 +49,12 @@ fn fill_longer(message: &[u8], out: &mut [u8])
     let n = out.len();
     let r = (n - 1) / 32 - 1;
     let mut v = first_value(64, n, message);
-    let mut i: usize = 0;
-    while i + 1 < r {
+    for i in 0..r - 1 {
         slices::put(out, 32 * i, &v[0..32]);
         let w = next_value(64, v);
         v = w;
-        i += 1;
     }
-    slices::put(out, 32 * i, &v[0..32]);
+    slices::put(out, 32 * (r - 1), &v[0..32]);
     let last = next_value((n - 32 * r) as u8, v);
     slices::put(out, 32 * r, &last);
 }
