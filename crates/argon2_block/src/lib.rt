@@ -12,8 +12,6 @@ ghost use Rattle.argon2_block.specs.Rfc9106 as rfc9106;
 ghost use Rattle.argon2_block.specs.Order as order;
 ghost use Rattle.argon2_block.specs.State.{four};
 
-use words::plus64;
-
 // Four words of a block.
 #[derive(Clone, Copy)]
 struct Words {
@@ -41,7 +39,7 @@ fn product(x: u64, y: u64) -> u64
 fn minus64(x: u64, y: u64) -> u64
     ensures { word.plus 64 result y ≡ x }
 {
-    std::num::wrapping_sub_u64(x, y)
+    x.wrapping_sub(y)
 }
 
 // 3.6: x + y + 2 * trunc(x) * trunc(y), as 2 * (trunc(x) * trunc(y) + y) + (x - y): the compiler does not move this
@@ -49,40 +47,8 @@ fn minus64(x: u64, y: u64) -> u64
 fn mul_add(x: u64, y: u64) -> u64
     ensures { result ≡ rfc9106.mul_add x y }
 {
-    let u = plus64(product(x, y), y);
-    plus64(plus64(u, u), minus64(x, y))
-}
-
-// x ^ y, rotated right by 32 places.
-fn xor_rotr32(x: u64, y: u64) -> u64
-    ensures { result ≡ word.rotr 64 32 (bit_xor x y) }
-{
-    let z = x ^ y;
-    (z >> 32) | (z << 32)
-}
-
-// x ^ y, rotated right by 24 places.
-fn xor_rotr24(x: u64, y: u64) -> u64
-    ensures { result ≡ word.rotr 64 24 (bit_xor x y) }
-{
-    let z = x ^ y;
-    (z >> 24) | (z << 40)
-}
-
-// x ^ y, rotated right by 16 places.
-fn xor_rotr16(x: u64, y: u64) -> u64
-    ensures { result ≡ word.rotr 64 16 (bit_xor x y) }
-{
-    let z = x ^ y;
-    (z >> 16) | (z << 48)
-}
-
-// x ^ y, rotated right by 63 places.
-fn xor_rotr63(x: u64, y: u64) -> u64
-    ensures { result ≡ word.rotr 64 63 (bit_xor x y) }
-{
-    let z = x ^ y;
-    (z >> 63) | (z << 1)
+    let u = product(x, y).wrapping_add(y);
+    u.wrapping_add(u).wrapping_add(minus64(x, y))
 }
 
 // 3.6: GB on four words.
@@ -90,13 +56,13 @@ fn gb(a: u64, b: u64, c: u64, d: u64) -> Words
     ensures { four result ≡ rfc9106.gb (record { a = a; b = b; c = c; d = d }) }
 {
     let a1 = mul_add(a, b);
-    let d1 = xor_rotr32(d, a1);
+    let d1 = (d ^ a1).rotate_right(32);
     let c1 = mul_add(c, d1);
-    let b1 = xor_rotr24(b, c1);
+    let b1 = (b ^ c1).rotate_right(24);
     let a2 = mul_add(a1, b1);
-    let d2 = xor_rotr16(d1, a2);
+    let d2 = (d1 ^ a2).rotate_right(16);
     let c2 = mul_add(c1, d2);
-    let b2 = xor_rotr63(b1, c2);
+    let b2 = (b1 ^ c2).rotate_right(63);
     Words {
         a: a2,
         b: b2,
@@ -123,10 +89,8 @@ fn gbs(s: &mut [u64; 128], i: usize, j: usize, k: usize, l: usize, n: usize)
     requires { (i + n ≤ 128) × ((j + n ≤ 128) × ((k + n ≤ 128) × (l + n ≤ 128))) }
     ensures { s.new ≡ order.gbs n s.old i j k l }
 {
-    let mut t: usize = 0;
-    while t < n {
+    for t in 0..n {
         gb_on(s, i + t, j + t, k + t, l + t);
-        t += 1;
     }
 }
 
@@ -150,10 +114,8 @@ fn cycles(s: &mut [u64; 128], i: usize, j: usize, k: usize, l: usize)
     requires { (i < 114) × ((j < 114) × ((k < 114) × (l < 114))) }
     ensures { s.new ≡ order.cycles 8 s.old i j k l }
 {
-    let mut t: usize = 0;
-    while t < 8 {
+    for t in 0..8 {
         cycle(s, i + t * 2, j + t * 2, k + t * 2, l + t * 2);
-        t += 1;
     }
 }
 
@@ -191,10 +153,8 @@ fn turn_row(s: &mut [u64; 128], n: usize)
     requires { n < 8 }
     ensures { s.new ≡ order.turn_row n s.old n }
 {
-    let mut i: usize = 0;
-    while i < n {
+    for i in 0..n {
         exchange(s, n * 16 + i * 2, i * 16 + n * 2);
-        i += 1;
     }
 }
 
@@ -202,10 +162,8 @@ fn turn_row(s: &mut [u64; 128], n: usize)
 fn turn(s: &mut [u64; 128])
     ensures { s.new ≡ order.turn 8 s.old }
 {
-    let mut n: usize = 0;
-    while n < 8 {
+    for n in 0..8 {
         turn_row(s, n);
-        n += 1;
     }
 }
 

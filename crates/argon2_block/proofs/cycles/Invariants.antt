@@ -1,10 +1,7 @@
 -- `argon2_block::cycles` meets its contract. The invariant: t times four words are moved. Assumes nothing.
-use Rattle.std.proofs.Common.{◌≡◌, ◌-◌, ◌≤◌}
+use Rattle.std.proofs.Common.{◌≡◌}
 use Rattle.argon2_block.specs.Order.{cycles}
 use Rattle.argon2_block.proofs.cycles.Given as goal
 
 abbrev pub invariant-loop-t : goal.invariant-loop-t
-invariant-loop-t l = (l.t ≤ 8) × (l.s ≡ cycles l.t l.initial.s l.i l.j l.k l.l)
-
-abbrev pub decreases-loop-t : goal.decreases-loop-t
-decreases-loop-t l = 8 - l.t
+invariant-loop-t l = l.s ≡ cycles l.t l.initial.s l.i l.j l.k l.l

