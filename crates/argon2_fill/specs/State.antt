@@ -3,12 +3,12 @@
 --   figures, position    the structs as the definitions' records
 --   Fits                 lanes and segments that a filling takes
 --   Placed, Open         a place in the memory, and one whose block is not a given one
---   Begun, Stretch       a segment from a position on, and a part of it
+--   Begun                a segment from a position on
 --   Room                 the memory has every block
 --   Addressed            the addresses lent are those of the position, where they are looked at
 --   filled               what a filling leaves: figures that do not fit, or too little memory, leave it as it was
 -- Assumes nothing.
-use Rattle.std.specs.Prelude.{◌≡◌, Bool, true, cond, ◌&&◌, List, ℕ, ◌+◌, ◌*◌, ◌/◌, ◌≤◌, ◌<◌, eqb, ltb, leb, length}
+use Rattle.std.specs.Prelude.{◌≡◌, Bool, true, cond, ◌&&◌, List, ℕ, ◌+◌, ◌*◌, ◌≤◌, ◌<◌, eqb, ltb, leb, length}
 use Rattle.argon2_fill.specs.Rfc9106 as rfc9106
 use Rattle.argon2_fill.specs.declared.Figures.{Figures}
 use Rattle.argon2_fill.specs.declared.Position.{Position}
@@ -43,13 +43,6 @@ pub record Begun (f : rfc9106.Figures) (p : rfc9106.Position) : Type 0 where
   pub lane : p.lane < f.lanes
   pub index : p.index ≤ f.segment
   pub free : 2 ≤ p.index + 2 * (p.pass + p.slice)
-
--- a stretch of a segment, whose words one block of addresses holds
-pub record Stretch (f : rfc9106.Figures) (p : rfc9106.Position) (end : ℕ) : Type 0 where
-  pub begun : Begun f p
-  pub forth : p.index ≤ end
-  pub within : end ≤ f.segment
-  pub one : end ≤ p.index / 128 * 128 + 128
 
 abbrev pub Room : rfc9106.Figures → List ℕ → Type 0
 Room f m = rfc9106.blocks f * 128 ≤ length m

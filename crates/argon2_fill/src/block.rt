@@ -15,10 +15,8 @@ fn mixed(r: &mut [u64; 128], x: &[u64], y: &[u64])
     requires { (length r.old ≡ 128) × ((128 ≤ length x.now) × (128 ≤ length y.now)) }
     ensures { r.new ≡ xors (take 128 x.now) (take 128 y.now) }
 {
-    let mut i: usize = 0;
-    while i < 128 {
-        r[i] = x[i] ^ y[i];
-        i += 1;
+    for (i, word) in r.iter_mut().enumerate() {
+        *word = x[i] ^ y[i];
     }
 }
 
@@ -27,10 +25,8 @@ fn put_fresh(out: &mut [u64], z: &[u64; 128], r: &[u64; 128])
     requires { (128 ≤ length out.old) × ((length z.now ≡ 128) × (length r.now ≡ 128)) }
     ensures { out.new ≡ over (xors z.now r.now) out.old }
 {
-    let mut i: usize = 0;
-    while i < 128 {
+    for i in 0..128 {
         out[i] = z[i] ^ r[i];
-        i += 1;
     }
 }
 
@@ -40,10 +36,8 @@ fn put_over(out: &mut [u64], z: &[u64; 128], r: &[u64; 128])
     ensures { out.new
         ≡ over (xors (xors z.now r.now) (take 128 out.old)) out.old }
 {
-    let mut i: usize = 0;
-    while i < 128 {
+    for i in 0..128 {
         out[i] = (z[i] ^ r[i]) ^ out[i];
-        i += 1;
     }
 }
 
@@ -52,10 +46,8 @@ fn add(r: &mut [u64; 128], z: &[u64; 128])
     requires { (length r.old ≡ 128) × (length z.now ≡ 128) }
     ensures { r.new ≡ xors z.now r.old }
 {
-    let mut i: usize = 0;
-    while i < 128 {
-        r[i] = z[i] ^ r[i];
-        i += 1;
+    for (i, word) in r.iter_mut().enumerate() {
+        *word = z[i] ^ *word;
     }
 }
 
@@ -73,12 +65,7 @@ fn compress_zeros(r: &mut [u64; 128])
 pub(crate) fn looks_at(f: Figures, p: Position) -> bool
     ensures { result ≡ looks (figures f) (position p) }
 {
-    if f.kind == 2 {
-        if p.pass == 0 {
-            return p.slice < 2;
-        }
-    }
-    false
+    f.kind == 2 && p.pass == 0 && p.slice < 2
 }
 
 // The block of addresses that holds a position's word.

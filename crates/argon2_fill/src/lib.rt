@@ -38,16 +38,11 @@ pub struct Position {
 fn fits(f: Figures, words: usize) -> bool
     ensures { result ≡ state.accepts (state.figures f) words }
 {
-    if 0 < f.lanes {
-        if f.lanes <= 16 {
-            if 2 <= f.segment {
-                if f.segment <= 16_384 {
-                    return places::times(f.lanes, 4 * f.segment) * 128 <= words;
-                }
-            }
-        }
-    }
-    false
+    0 < f.lanes
+        && f.lanes <= 16
+        && 2 <= f.segment
+        && f.segment <= 16_384
+        && places::times(f.lanes, 4 * f.segment) * 128 <= words
 }
 
 // Fills the blocks of a memory whose first two blocks of each lane are given.

@@ -2,15 +2,15 @@
 --
 -- In order:
 --   length-fill_block .. length-passes    as long as it was
---   fill_from_none, fill_from_more, fill_from_join    no block yet, one block more, and a stretch behind a stretch
+--   fill_from_none, fill_from_more                    no block yet, one block more
 --   segments_more, slices_more, passes_more    one more
---   stretch_open, stretch_addressed      positions of a stretch
---   given_le, given_free                 where a segment begins
+--   begun-placed                          positions of a segment
+--   given_le, given_free                  where a segment begins
+--   segment_open, segment_is              the blocks that it fills, and all of them
 -- Assumes nothing.
 use mathlib.Core.Path.{◌≡◌, refl, sym, ap, ◌∙◌}
 use mathlib.Core.List.{List}
 use Prim.Native.Nat.{ℕ, zero, suc, ◌+◌, ◌-◌, ◌*◌, ◌≤◌, ◌<◌}
-use native.Mathlib.Nat.{add_assoc, add-zero, add-suc}
 use native.Mathlib.Numerals.{add-one}
 use native.Mathlib.Omega.{arith}
 use lib.Dec.{eqb, ltb}
@@ -19,8 +19,7 @@ use borrow.Author.Tests.{eq-eqb, ltb-true, ltb-false}
 use Rattle.words.proofs.Laws.Cases.{by_bool}
 use Rattle.slices.proofs.Laws.Put.{length-put_at}
 use Rattle.argon2_fill.specs.Rfc9106.{Figures, Position, at, current, new_block, fill_block, fill_from, given, segment, segments, slices, passes}
-use Rattle.argon2_fill.specs.State.{Placed, Open, Begun, Stretch, Addressed}
-use Rattle.argon2_fill.proofs.Laws.Chooser.{addresses_same}
+use Rattle.argon2_fill.specs.State.{Fits, Placed, Open, Begun}
 
 module _ (choose : List ℕ → Position → ℕ) (f : Figures) where
   pub length-fill_block : (p : Position) (m : List ℕ) → length (fill_block choose f p m) ≡ length m
@@ -70,32 +69,10 @@ module _ (choose : List ℕ → Position → ℕ) (f : Figures) where
       ∙ ap (λ (j : ℕ). fill_block choose f (at p j) (fill_from choose f p (i - p.index) m)) (sym a)
       ∙ ap (λ (j : ℕ). fill_from choose f p j m) (sym b)
 
-  fill_from-add : (p : Position) (a b : ℕ) (m : List ℕ)
-      → fill_from choose f (at p (p.index + a)) b (fill_from choose f p a m) ≡ fill_from choose f p (a + b) m
-  unfolding fill_from
-  fill_from-add p a zero m = ap (λ (j : ℕ). fill_from choose f p j m) (sym (add-zero a))
-  fill_from-add p a (suc b) m =
-      ap (fill_block choose f (at p (p.index + a + b))) (fill_from-add p a b m)
-      ∙ ap (λ (j : ℕ). fill_block choose f (at p j) (fill_from choose f p (a + b) m)) (add_assoc p.index a b)
-      ∙ ap (λ (j : ℕ). fill_from choose f p j m) (sym (add-suc a b))
-
-  -- a stretch from the index i to the index j
-  pub fill_from_join : (p : Position) (i j : ℕ) (m x y : List ℕ) → p.index ≤ i → i ≤ j
-      → x ≡ fill_from choose f p (i - p.index) m → y ≡ fill_from choose f (at p i) (j - i) x
-      → y ≡ fill_from choose f p (j - p.index) m
-  fill_from_join p i j m x y h k e g =
-      let a : p.index + (i - p.index) ≡ i = omega arith in
-      let b : i - p.index + (j - i) ≡ j - p.index = omega arith in
-      g ∙ ap (fill_from choose f (at p i) (j - i)) e
-      ∙ ap (λ (n : ℕ). fill_from choose f (at p n) (j - i) (fill_from choose f p (i - p.index) m)) (sym a)
-      ∙ fill_from-add p (i - p.index) (j - i) m
-      ∙ ap (λ (n : ℕ). fill_from choose f p n m) b
-
-  pub segments_more : (r sl l g : ℕ) (m x y : List ℕ) → g ≡ given r sl → x ≡ segments choose f r sl l m
-      → y ≡ fill_from choose f (record { pass = r; slice = sl; lane = l; index = g }) (f.segment - g) x
-      → y ≡ segments choose f r sl (l + 1) m
-  unfolding segments segment
-  segments_more r sl l g m x y d e h = rw (add-one, ← d, ← e) h
+  pub segments_more : (r sl l : ℕ) (m x y : List ℕ) → x ≡ segments choose f r sl l m
+      → y ≡ segment choose f r sl l x → y ≡ segments choose f r sl (l + 1) m
+  unfolding segments
+  segments_more r sl l m x y e h = rw (add-one, ← e) h
 
   pub slices_more : (r sl : ℕ) (m x y : List ℕ) → x ≡ slices choose f r sl m
       → y ≡ segments choose f r sl f.lanes x → y ≡ slices choose f r (sl + 1) m
@@ -109,24 +86,6 @@ module _ (choose : List ℕ → Position → ℕ) (f : Figures) where
 
 pub begun-placed : (f : Figures) (p : Position) (i : ℕ) → Begun f p → i < f.segment → Placed f (at p i)
 begun-placed f p i b h = record { fits = b.fits; slice = b.slice; lane = b.lane; index = h }
-
-pub begun_again : (f : Figures) (p : Position) (i : ℕ) → Begun f p → p.index ≤ i → i ≤ f.segment → Begun f (at p i)
-begun_again f p i b h k =
-    let o = b.free in
-    record { fits = b.fits; slice = b.slice; lane = b.lane; index = k; free = omega arith }
-
-pub stretch_open : (f : Figures) (p : Position) (end i : ℕ) → Stretch f p end → p.index ≤ i → i < end
-    → Open f (at p i)
-stretch_open f p end i s h k =
-    let w = s.within in
-    let o = s.begun.free in
-    record { placed = begun-placed f p i s.begun (omega arith); free = omega arith }
-
-pub stretch_addressed : (f : Figures) (p : Position) (end i : ℕ) (a : List ℕ) → Stretch f p end → p.index ≤ i
-    → i < end → Addressed f p a → Addressed f (at p i) a
-stretch_addressed f p end i a s h k =
-    let o = s.one in
-    addresses_same f p i a (omega arith)
 
 pub given_le : (r sl : ℕ) → given r sl ≤ 2
 unfolding given
@@ -148,3 +107,23 @@ given_free r sl =
     (λ u. let k = ltb-true 0 sl u in omega arith)
     (λ u. let k = ltb-false 0 sl u in
     let e = given_own r sl (omega arith) (omega arith) in omega arith))
+
+-- the blocks that a segment fills
+pub segment_open : (f : Figures) (r sl l g i : ℕ) → Fits f → sl < 4 → l < f.lanes → g ≡ given r sl → g ≤ i → i < f.segment
+    → Open f (record { pass = r; slice = sl; lane = l; index = i })
+segment_open f r sl l g i h k n e m j =
+    let o = given_free r sl in
+    record {
+      placed = record { fits = h; slice = k; lane = n; index = j };
+      free = omega arith;
+    }
+
+pub segment_is : (choose : List ℕ → Position → ℕ) (f : Figures) (r sl l g i : ℕ) (m x : List ℕ) → Fits f → g ≡ given r sl
+    → (g ≤ f.segment → i ≤ f.segment) → f.segment ≤ i
+    → x ≡ fill_from choose f (record { pass = r; slice = sl; lane = l; index = g }) (i - g) m → x ≡ segment choose f r sl l m
+unfolding segment
+segment_is choose f r sl l g i m x h e b k q =
+    let o = given_le r sl in
+    let t = h.long in
+    let j : i ≡ f.segment = omega arith in
+    rw (← e) (q ∙ ap (λ (n : ℕ). fill_from choose f (record { pass = r; slice = sl; lane = l; index = g }) (n - g) m) j)

@@ -10,7 +10,7 @@ fill_passes-requires c =
     let a = c.args in
     let f = figures a.f in
     let t = sym c.fits.ensures ∙ c.if-fits.true in
-    (accepts-fits f (length a.memory.now) t, accepts_room f (length a.memory.now) t)
+    record { fits = accepts-fits f (length a.memory.now) t; room = accepts_room f (length a.memory.now) t }
 
 pub returns-then-fits : goal.returns-then-fits
 returns-then-fits c =

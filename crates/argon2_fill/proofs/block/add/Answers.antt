@@ -12,7 +12,7 @@ use borrow.Author.Rules.{rules}
 use Rattle.argon2_fill.proofs.block.add.Goals as goal
 
 pub loop-i-init : goal.loop-i-init
-loop-i-init c = (search rules, search rules, sym (over_nil c.args.r.now))
+loop-i-init c = (search rules, sym (over_nil c.args.r.now))
 
 pub loop-i-preserved : goal.loop-i-preserved
 loop-i-preserved c =
@@ -24,10 +24,9 @@ loop-i-preserved c =
     let n = length_fresh z d h.1 h.0 in
     let k = h.0 in
     let t : l.i < 128 = omega arith in
-    let o = get_or_over_next (xors z d) d l.r l.i l.invariant.2 (omega arith) (omega arith) in (
-      search rules,
-      simp length-set l.invariant.1,
-      put_more (xors z d) d l.r l.i _ l.invariant.2 (omega arith) (omega arith)
+    let o = get_or_over_next (xors z d) d l.r l.i l.invariant.1 (omega arith) (omega arith) in (
+      simp length-set l.invariant.0,
+      put_more (xors z d) d l.r l.i _ l.invariant.1 (omega arith) (omega arith)
           (ap (bit_xor (get_or z l.i 0)) o ∙ fresh_word z d l.i h.1 h.0 t),
     )
 
@@ -40,4 +39,4 @@ returns c =
     let w : List ℕ = xors a.z.now d in
     let n : length w ≡ 128 = length_fresh a.z.now d h.1 h.0 in
     let k = h.0 in
-    put_all w d l.r l.i l.invariant.2 (omega arith) ∙ over_all w d (omega arith)
+    put_all w d l.r l.i l.invariant.1 (omega arith) ∙ over_all w d (omega arith)

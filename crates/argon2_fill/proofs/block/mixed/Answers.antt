@@ -11,7 +11,7 @@ use borrow.Author.Rules.{rules}
 use Rattle.argon2_fill.proofs.block.mixed.Goals as goal
 
 pub loop-i-init : goal.loop-i-init
-loop-i-init c = (search rules, search rules, sym (over_nil c.args.r.now))
+loop-i-init c = (search rules, sym (over_nil c.args.r.now))
 
 pub loop-i-preserved : goal.loop-i-preserved
 loop-i-preserved c =
@@ -24,9 +24,8 @@ loop-i-preserved c =
     let n = length-mixed x y h.1.0 h.1.1 in
     let k = h.0 in
     let t : l.i < 128 = omega arith in (
-      search rules,
-      simp length-set l.invariant.1,
-      put_more (xors (take 128 x) (take 128 y)) d l.r l.i _ l.invariant.2 (omega arith) (omega arith)
+      simp length-set l.invariant.0,
+      put_more (xors (take 128 x) (take 128 y)) d l.r l.i _ l.invariant.1 (omega arith) (omega arith)
           (mixed-word x y l.i h.1.0 h.1.1 t),
     )
 
@@ -41,4 +40,4 @@ returns c =
     let d = a.r.now in
     let n : length w ≡ 128 = length-mixed x y h.1.0 h.1.1 in
     let k = h.0 in
-    put_all w d l.r l.i l.invariant.2 (omega arith) ∙ over_all w d (omega arith)
+    put_all w d l.r l.i l.invariant.1 (omega arith) ∙ over_all w d (omega arith)

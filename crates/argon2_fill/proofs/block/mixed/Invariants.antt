@@ -1,6 +1,5 @@
 -- `argon2_fill::block::mixed` meets its contract. The invariant: the first i words are made. Assumes nothing.
 use mathlib.Core.Path.{◌≡◌}
-use Prim.Native.Nat.{◌-◌, ◌≤◌}
 use lib.ListN.{length, take}
 use Rattle.words.specs.Xor.{xors}
 use Rattle.slices.specs.Over.{over}
@@ -8,7 +7,4 @@ use Rattle.argon2_fill.proofs.block.mixed.Given as goal
 
 abbrev pub invariant-loop-i : goal.invariant-loop-i
 invariant-loop-i l =
-    (l.i ≤ 128) × (length l.r ≡ 128) × (l.r ≡ over (take l.i (xors (take 128 l.x) (take 128 l.y))) l.initial.r)
-
-abbrev pub decreases-loop-i : goal.decreases-loop-i
-decreases-loop-i l = 128 - l.i
+    (length l.r ≡ 128) × (l.r ≡ over (take l.i (xors (take 128 l.x) (take 128 l.y))) l.initial.r)

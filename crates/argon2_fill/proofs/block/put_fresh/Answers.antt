@@ -10,7 +10,7 @@ use borrow.Author.Rules.{rules}
 use Rattle.argon2_fill.proofs.block.put_fresh.Goals as goal
 
 pub loop-i-init : goal.loop-i-init
-loop-i-init c = (search rules, search rules, sym (over_nil c.args.out.now))
+loop-i-init c = (search rules, sym (over_nil c.args.out.now))
 
 pub loop-i-preserved : goal.loop-i-preserved
 loop-i-preserved c =
@@ -23,9 +23,8 @@ loop-i-preserved c =
     let n = length_fresh z r h.1.0 h.1.1 in
     let k = h.0 in
     let t : l.i < 128 = omega arith in (
-      search rules,
-      simp length-set l.invariant.1,
-      put_more (xors z r) d l.out l.i _ l.invariant.2 (omega arith) (omega arith)
+      simp length-set l.invariant.0,
+      put_more (xors z r) d l.out l.i _ l.invariant.1 (omega arith) (omega arith)
           (fresh_word z r l.i h.1.0 h.1.1 t),
     )
 
@@ -35,4 +34,4 @@ returns c =
     let a = c.args in
     let h = c.requires in
     let n = length_fresh a.z.now a.r.now h.1.0 h.1.1 in
-    put_all (xors a.z.now a.r.now) a.out.now l.out l.i l.invariant.2 (omega arith)
+    put_all (xors a.z.now a.r.now) a.out.now l.out l.i l.invariant.1 (omega arith)

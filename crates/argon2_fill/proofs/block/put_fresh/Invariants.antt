@@ -1,13 +1,9 @@
 -- `argon2_fill::block::put_fresh` meets its contract. The invariant: the first i words are put. Assumes nothing.
 use mathlib.Core.Path.{◌≡◌}
-use Prim.Native.Nat.{◌-◌, ◌≤◌}
 use lib.ListN.{length, take}
 use Rattle.words.specs.Xor.{xors}
 use Rattle.slices.specs.Over.{over}
 use Rattle.argon2_fill.proofs.block.put_fresh.Given as goal
 
 abbrev pub invariant-loop-i : goal.invariant-loop-i
-invariant-loop-i l = (l.i ≤ 128) × (length l.out ≡ length l.initial.out) × (l.out ≡ over (take l.i (xors l.z l.r)) l.initial.out)
-
-abbrev pub decreases-loop-i : goal.decreases-loop-i
-decreases-loop-i l = 128 - l.i
+invariant-loop-i l = (length l.out ≡ length l.initial.out) × (l.out ≡ over (take l.i (xors l.z l.r)) l.initial.out)

@@ -12,7 +12,7 @@ use borrow.Author.Rules.{rules}
 use Rattle.argon2_fill.proofs.block.put_over.Goals as goal
 
 pub loop-i-init : goal.loop-i-init
-loop-i-init c = (search rules, search rules, sym (over_nil c.args.out.now))
+loop-i-init c = (search rules, sym (over_nil c.args.out.now))
 
 pub loop-i-preserved : goal.loop-i-preserved
 loop-i-preserved c =
@@ -26,10 +26,9 @@ loop-i-preserved c =
     let n : length w ≡ 128 = length_added z r d h.1.0 h.1.1 h.0 in
     let k = h.0 in
     let t : l.i < 128 = omega arith in
-    let o = get_or_over_next w d l.out l.i l.invariant.2 (omega arith) (omega arith) in (
-      search rules,
-      simp length-set l.invariant.1,
-      put_more w d l.out l.i _ l.invariant.2 (omega arith) (omega arith)
+    let o = get_or_over_next w d l.out l.i l.invariant.1 (omega arith) (omega arith) in (
+      simp length-set l.invariant.0,
+      put_more w d l.out l.i _ l.invariant.1 (omega arith) (omega arith)
           (ap (bit_xor (bit_xor (get_or z l.i 0) (get_or r l.i 0))) o
           ∙ added_word z r d l.i h.1.0 h.1.1 h.0 t),
     )
@@ -42,4 +41,4 @@ returns c =
     let d = a.out.now in
     let w : List ℕ = xors (xors a.z.now a.r.now) (take 128 d) in
     let n : length w ≡ 128 = length_added a.z.now a.r.now d h.1.0 h.1.1 h.0 in
-    put_all w d l.out l.i l.invariant.2 (omega arith)
+    put_all w d l.out l.i l.invariant.1 (omega arith)

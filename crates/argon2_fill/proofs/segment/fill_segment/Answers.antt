@@ -1,70 +1,84 @@
--- `argon2_fill::segment::fill_segment` meets its contract. The invariant: the blocks before the index i are filled.
--- Assumes nothing.
-use mathlib.Core.Path.{◌≡◌, refl, ap, ◌∙◌}
-use Prim.Native.Nat.{ℕ, ◌-◌, ◌≤◌}
+-- `argon2_fill::segment::fill_segment` meets its contract. The invariant: the blocks before the index are filled, and the
+-- addresses lent to the last of them stand. Assumes nothing.
+use mathlib.Core.Path.{◌≡◌}
+use Prim.Native.Nat.{◌-◌}
 use native.Mathlib.Omega.{arith}
-use lib.ListN.{length}
-use Rattle.argon2_fill.specs.Rfc9106.{at, fill_from, chooser}
-use Rattle.argon2_fill.specs.State.{figures, position}
-use Rattle.argon2_fill.proofs.Laws.Segments.{length-fill_from, fill_from_none, fill_from_join, begun-placed, begun_again}
+use Rattle.argon2_fill.specs.Rfc9106.{Position, at, chooser}
+use Rattle.argon2_fill.specs.State.{figures}
+use Rattle.argon2_fill.proofs.Laws.Segments.{fill_from_none, fill_from_more, segment_open, segment_is}
+use Rattle.argon2_fill.proofs.Laws.Chooser.{addresses_same}
+use Rattle.argon2_fill.proofs.segment.fill_segment.Goals.{then-index-first, else-index-first+else-index-eq0}
 use Rattle.argon2_fill.proofs.segment.fill_segment.Goals as goal
 
-pub loop-i-init : goal.loop-i-init
-loop-i-init c =
+pub loop-index-init : goal.loop-index-init
+loop-index-init c =
     let a = c.args in
     let f = figures a.f in
-    (omega arith, c.requires.0.index, refl, fill_from_none (chooser f) f (position a.p) a.memory.now)
+    record {
+      filled = fill_from_none (chooser f) f (record { pass = a.pass; slice = a.slice; lane = a.lane; index = c.given-first.result }) a.memory.now;
+      looked = λ k h e. absurd (omega arith);
+    }
 
-pub addresses_of-a-requires : goal.addresses_of-a-requires
-addresses_of-a-requires c =
-    let l = c.loop-i in
+pub addresses_of-next-requires : goal.addresses_of-next-requires
+addresses_of-next-requires c =
+    let l = c.loop-index in
     let a = c.args in
-    begun-placed (figures a.f) (position a.p) l.i c.requires.0 c.loop-i-test.true
+    let h = c.requires in
+    let o = segment_open (figures a.f) a.pass a.slice a.lane _ l.index h.fits h.slice_bound h.lane_bound c.given-first.ensures l.auto.index c.loop-index-test.true in
+    o.placed
 
-pub stretch_end-end-requires : goal.stretch_end-end-requires
-stretch_end-end-requires c =
-    (c.loop-i-test.true, c.requires.0.fits.short)
-
-pub fill_stretch-requires : goal.fill_stretch-requires
-fill_stretch-requires c =
-    let l = c.loop-i in
-    let a = c.args in
-    let s = c.stretch_end-end.ensures in
-    let b = begun_again (figures a.f) (position a.p) l.i c.requires.0 l.invariant.0 l.invariant.1 in
-    let r = c.requires.1 in
-    let t = s.0 in (
-      record { begun = b; forth = omega arith; within = s.1.0; one = s.1.1 },
-      (omega arith, c.addresses_of-a.ensures),
-    )
-
-pub loop-i-smaller : goal.loop-i-smaller
-loop-i-smaller c =
-    let s = c.stretch_end-end.ensures in
-    let h = s.0 in
-    let k = s.1.0 in
-    omega arith
-
-pub loop-i-preserved : goal.loop-i-preserved
-loop-i-preserved c =
-    let l = c.loop-i in
+pub fill_block-requires : goal.fill_block-requires
+fill_block-requires c =
+    let l = c.loop-index in
     let a = c.args in
     let f = figures a.f in
-    let p = position a.p in
-    let s = c.stretch_end-end.ensures in
-    let n = c.stretch_end-end.result in
-    let e = c.fill_stretch.ensures in
-    let g : l.i ≤ n = let h = s.0 in omega arith in
-    let h = l.invariant.0 in (
-      omega arith,
-      s.1.0,
-      ap length e ∙ length-fill_from (chooser f) f (at p l.i) (n - l.i) l.memory ∙ l.invariant.2,
-      fill_from_join (chooser f) f p l.i n a.memory.now l.memory _ h g l.invariant.3 e,
+    let h = c.requires in
+    let r = h.room in
+    let n = l.auto.memory in
+    let p : Position = record { pass = a.pass; slice = a.slice; lane = a.lane; index = c.given-first.result } in
+    let g = l.auto.index in (
+      segment_open f a.pass a.slice a.lane _ l.index h.fits h.slice_bound h.lane_bound c.given-first.ensures l.auto.index c.loop-index-test.true,
+      (
+        omega arith,
+        elim c.if-index-first.branch [
+          | then-index-first w ↦ rw w.words-is w.addresses_of-next.ensures
+          | else-index-first+else-index-eq0 w ↦
+              let x = w.if-index-first.false in
+              let y = w.if-index-eq0.false in
+              rw w.words-is
+              (addresses_same f (at p (l.index - 1)) l.index l.words (omega arith)
+              (l.invariant.looked (l.index - 1) (omega arith) (omega arith)))
+        ],
+      ),
     )
+
+pub loop-index-preserved : goal.loop-index-preserved
+loop-index-preserved c =
+    let l = c.loop-index in
+    let a = c.args in
+    let f = figures a.f in
+    let p : Position = record { pass = a.pass; slice = a.slice; lane = a.lane; index = c.given-first.result } in
+    record {
+      filled = fill_from_more (chooser f) f p l.index a.memory.now l.memory _ l.auto.index l.invariant.filled c.fill_block.ensures;
+      looked =
+          λ k h e.
+          let g = l.auto.index in
+          let j : k ≡ l.index = omega arith in
+          rw j
+          (elim c.if-index-first.branch [
+            | then-index-first w ↦ rw w.words-is w.addresses_of-next.ensures
+            | else-index-first+else-index-eq0 w ↦
+                let x = w.if-index-first.false in
+                let y = w.if-index-eq0.false in
+                rw w.words-is
+                (addresses_same f (at p (l.index - 1)) l.index l.words (omega arith)
+                (l.invariant.looked (l.index - 1) (omega arith) (omega arith)))
+          ]);
+    }
 
 pub returns : goal.returns
 returns c =
-    let l = c.loop-i in
+    let l = c.loop-index in
     let a = c.args in
     let f = figures a.f in
-    let e : l.i ≡ a.f.segment = omega arith in
-    l.invariant.3 ∙ ap (λ (n : ℕ). fill_from (chooser f) f (position a.p) (n - a.p.index) a.memory.now) e
+    segment_is (chooser f) f a.pass a.slice a.lane _ l.index a.memory.now l.memory c.requires.fits c.given-first.ensures l.auto.index-end (omega arith) l.invariant.filled
