@@ -37,19 +37,30 @@ fn fill_segment(memory: &mut [u64], f: Figures, pass: usize, slice: usize, lane:
         ≡ rfc9106.segment (rfc9106.chooser (figures f)) (figures f) pass slice lane memory.old }
 {
     let first = given(pass, slice);
-    let mut words = [0u64; 128];
-    for index in first..f.segment {
-        let p = Position {
-            pass,
-            slice,
-            lane,
-            index,
-        };
-        if index == first || index % 128 == 0 {
-            let next = addresses_of(f, p);
-            words = next;
+    for n in 0..f.segment.div_ceil(128) {
+        let start = n * 128;
+        let words = addresses_of(
+            f,
+            Position {
+                pass,
+                slice,
+                lane,
+                index: start,
+            },
+        );
+        for index in first.max(start)..f.segment.min(start + 128) {
+            fill_block(
+                memory,
+                &words,
+                f,
+                Position {
+                    pass,
+                    slice,
+                    lane,
+                    index,
+                },
+            );
         }
-        fill_block(memory, &words, f, p);
     }
 }
 

@@ -118,12 +118,9 @@ segment_open f r sl l g i h k n e m j =
       free = omega arith;
     }
 
-pub segment_is : (choose : List ℕ → Position → ℕ) (f : Figures) (r sl l g i : ℕ) (m x : List ℕ) → Fits f → g ≡ given r sl
-    → (g ≤ f.segment → i ≤ f.segment) → f.segment ≤ i
-    → x ≡ fill_from choose f (record { pass = r; slice = sl; lane = l; index = g }) (i - g) m → x ≡ segment choose f r sl l m
+pub segment_is : (choose : List ℕ → Position → ℕ) (f : Figures) (r sl l g i : ℕ) (m x : List ℕ) → g ≡ given r sl
+    → i ≡ f.segment → x ≡ fill_from choose f (record { pass = r; slice = sl; lane = l; index = g }) (i - g) m
+    → x ≡ segment choose f r sl l m
 unfolding segment
-segment_is choose f r sl l g i m x h e b k q =
-    let o = given_le r sl in
-    let t = h.long in
-    let j : i ≡ f.segment = omega arith in
+segment_is choose f r sl l g i m x e j q =
     rw (← e) (q ∙ ap (λ (n : ℕ). fill_from choose f (record { pass = r; slice = sl; lane = l; index = g }) (n - g) m) j)
