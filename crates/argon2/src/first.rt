@@ -36,10 +36,8 @@ fn put_words(out: &mut [u64], bytes: [u8; 1024])
     requires { 128 ≤ length out.old }
     ensures { out.new ≡ over (block_words 128 bytes) out.old }
 {
-    let mut i: usize = 0;
-    while i < 128 {
+    for i in 0..128 {
         out[i] = words::le::u64_at(&bytes, i * 8);
-        i += 1;
     }
 }
 
@@ -61,10 +59,8 @@ pub(crate) fn put_first_blocks(memory: &mut [u64], f: Figures, h: [u8; 64])
     requires f_in_bounds { filling.blocks (figures f) * 128 ≤ length memory.old }
     ensures { memory.new ≡ rfc9106.first_blocks (figures f) h f.lanes memory.old }
 {
-    let mut i: usize = 0;
-    while i < f.lanes {
+    for i in 0..f.lanes {
         put_first(memory, f, h, i, 0);
         put_first(memory, f, h, i, 1);
-        i += 1;
     }
 }

@@ -8,18 +8,15 @@ ghost use Rattle.argon2.specs.Rfc9106 as rfc9106;
 
 use argon2_fill::Figures;
 
-// The exclusive or of a block and the first 128 words of a slice.
-fn xor_block(c: [u64; 128], s: &[u64]) -> [u64; 128]
-    requires { 128 ≤ length s.now }
-    ensures { result ≡ xors c (take 128 s.now) }
+// Adds the first 128 words of a slice to a block by exclusive or.
+fn xor_block(c: &mut [u64; 128], s: &[u64])
+    requires block_len { length c.old ≡ 128 }
+    requires in_bounds { 128 ≤ length s.now }
+    ensures { c.new ≡ xors c.old (take 128 s.now) }
 {
-    let mut r = [0u64; 128];
-    let mut i: usize = 0;
-    while i < 128 {
-        r[i] = c[i] ^ s[i];
-        i += 1;
+    for (i, word) in c.iter_mut().enumerate() {
+        *word ^= s[i];
     }
-    r
 }
 
 // Where the last block of a lane begins.
@@ -38,12 +35,9 @@ pub(crate) fn last_column(memory: &[u64], f: Figures) -> [u64; 128]
     ensures { result ≡ rfc9106.last_column (figures f) memory.now f.lanes }
 {
     let mut c = [0u64; 128];
-    let mut i: usize = 0;
-    while i < f.lanes {
+    for i in 0..f.lanes {
         let at = last_start(f, i, memory.len());
-        let d = xor_block(c, &memory[at..]);
-        c = d;
-        i += 1;
+        xor_block(&mut c, &memory[at..]);
     }
     c
 }
@@ -53,10 +47,8 @@ pub(crate) fn bytes_of(c: [u64; 128]) -> [u8; 1024]
     ensures { result ≡ serialize c }
 {
     let mut out = [0u8; 1024];
-    let mut i: usize = 0;
-    while i < 128 {
-        slices::put(&mut out, i * 8, &words::le::bytes64(c[i]));
-        i += 1;
+    for (i, word) in c.iter().enumerate() {
+        slices::put(&mut out, i * 8, &words::le::bytes64(*word));
     }
     out
 }

@@ -53,17 +53,6 @@ fn kib_of(bytes: u64) -> usize
     (bytes / 1024) as usize
 }
 
-// Sets every word to zero.
-fn clear(memory: &mut [u64])
-    ensures { memory.new ≡ replicate (length memory.old) 0 }
-{
-    let mut i: usize = 0;
-    while i < memory.len() {
-        memory[i] = 0;
-        i += 1;
-    }
-}
-
 // 3.2, steps 3 to 8: the tag of H_0 over `out`, in a memory that has the blocks and no more, which is left as zeros.
 fn fill_tag(memory: &mut [u64], f: Figures, h: [u8; 64], out: &mut [u8])
     requires fits { Fits (figures f) }
@@ -76,7 +65,7 @@ fn fill_tag(memory: &mut [u64], f: Figures, h: [u8; 64], out: &mut [u8])
     argon2_fill::fill(memory, f);
     let c = last::bytes_of(last::last_column(memory, f));
     argon2_hash::fill(&c, out);
-    clear(memory);
+    memory.fill(0);
 }
 
 // 3.2: the tag of the inputs over `out`, as long as that is. `bytes` is the memory to use, M, in bytes.

@@ -7,21 +7,15 @@
 -- Not here: the bytes of one word more (blake2b: Laws.Block).
 -- Assumes nothing.
 use mathlib.Core.Path.{◌≡◌, refl, sym, ap, ◌∙◌}
-use mathlib.Core.List.{List, ◌++◌}
+use mathlib.Core.List.{List}
 use Prim.Native.Nat.{ℕ, ◌+◌, ◌-◌, ◌*◌, ◌≤◌, ◌<◌}
 use native.Mathlib.Numerals.{add-one}
 use native.Mathlib.Omega.{arith}
 use lib.Bits.{bit_xor}
 use lib.ListN.{length, get_or, take, drop, replicate}
 use lib.Seq.{length-take-le, get_or-take}
-use Rattle.words.specs.Endian.{le_bytes}
 use Rattle.words.specs.Xor.{xors}
-use Rattle.slices.specs.Over.{over, laid, put_at}
-use Rattle.slices.proofs.Laws.Over.{over_behind_fits}
-use Rattle.slices.proofs.Laws.Put.{put_at-tail}
 use Rattle.slices.proofs.Laws.Parts.{part-tail}
-use Rattle.blake2b.specs.Rfc7693.{serialize}
-use Rattle.blake2b.proofs.Laws.Block.{serialize_more}
 use Rattle.argon2_fill.specs.Rfc9106.{Figures, lane_length, blocks, block_at}
 use Rattle.argon2_fill.specs.State.{Fits}
 use Rattle.argon2_fill.proofs.Laws.Places.{block_at-lt}

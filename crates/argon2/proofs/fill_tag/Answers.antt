@@ -14,7 +14,7 @@ returns c =
     let l : length c.last_column.result ≡ 128 = search rules in
     let n : length c.fill.new.memory ≡ length a.memory.now = search rules in
     record {
-      memory_after = c.clear.ensures ∙ ap (λ (k : ℕ). replicate k 0) n;
+      memory_after = c.fill-3.ensures.after (λ y e. e) ∙ ap (λ (k : ℕ). replicate k 0) n;
       out_after = tag_is (figures a.f) a.h h.fits a.memory.now _ _ _ _ a.out.now _ h.le_passes h.memory_len
           c.put_first_blocks.ensures c.fill.ensures c.last_column.ensures l
           c.bytes_of-c.ensures c.fill-2.ensures.out_after;

@@ -6,12 +6,11 @@ use native.Mathlib.Omega.{arith}
 use Rattle.argon2_fill.specs.State.{figures}
 use Rattle.argon2.specs.Rfc9106.{first_blocks}
 use Rattle.argon2.proofs.Laws.First.{first_long, firsts_more}
-use borrow.Author.Rules.{rules}
 use Rattle.argon2.proofs.first.put_first_blocks.Goals as goal
 
 pub loop-i-init : goal.loop-i-init
 unfolding first_blocks
-loop-i-init c = (search rules, refl, refl)
+loop-i-init c = refl
 
 pub put_first-requires : goal.put_first-requires
 put_first-requires c =
@@ -39,16 +38,11 @@ loop-i-preserved c =
     let l = c.loop-i in
     let a = c.args in
     let f = figures a.f in
-    let e₁ = c.put_first.ensures in
-    let e₂ = c.put_first-in-loop-i.ensures in (
-      search rules,
-      first_long f a.h _ l.i 1 e₂ ∙ first_long f a.h l.memory l.i 0 e₁ ∙ l.invariant.1,
-      firsts_more f a.h a.memory.now l.i l.invariant.2 e₁ e₂,
-    )
+    firsts_more f a.h a.memory.now l.i l.invariant c.put_first.ensures c.put_first-in-loop-i.ensures
 
 pub returns : goal.returns
 returns c =
     let l = c.loop-i in
     let a = c.args in
     let e : l.i ≡ a.f.lanes = omega arith in
-    l.invariant.2 ∙ ap (λ (n : ℕ). first_blocks (figures a.f) a.h n a.memory.now) e
+    l.invariant ∙ ap (λ (n : ℕ). first_blocks (figures a.f) a.h n a.memory.now) e

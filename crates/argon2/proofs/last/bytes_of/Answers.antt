@@ -10,7 +10,7 @@ use borrow.Author.Rules.{rules}
 use Rattle.argon2.proofs.last.bytes_of.Goals as goal
 
 pub loop-i-init : goal.loop-i-init
-loop-i-init c = (search rules, (search rules, serialize_none c.args.c (zeros 1024)))
+loop-i-init c = (search rules, serialize_none c.args.c (zeros 1024))
 
 pub loop-i-preserved : goal.loop-i-preserved
 loop-i-preserved c =
@@ -20,11 +20,8 @@ loop-i-preserved c =
     let long : length w ≡ 128 = search rules in
     let eight : length b ≡ 8 = search rules in
     let e = c.put.ensures in (
-      search rules,
-      (
-        ap length e ∙ length-put_at (l.i * 8) b l.out ∙ l.invariant.1.0,
-        serialize_more w l.out b _ l.i (omega arith) (omega arith) l.invariant.1.1 c.bytes64.ensures e,
-      ),
+      ap length e ∙ length-put_at (l.i * 8) b l.out ∙ l.invariant.0,
+      serialize_more w l.out b _ l.i (omega arith) (omega arith) l.invariant.1 c.bytes64.ensures e,
     )
 
 pub returns : goal.returns
@@ -32,4 +29,4 @@ returns c =
     let l = c.loop-i in
     let w = c.args.c in
     let long : length w ≡ 128 = search rules in
-    serialize_all w l.out l.i 1024 (omega arith) (omega arith) (omega arith) l.invariant.1.1
+    serialize_all w l.out l.i 1024 (omega arith) (omega arith) (omega arith) l.invariant.1
