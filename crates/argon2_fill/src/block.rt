@@ -4,10 +4,9 @@ ghost use Rattle.words.specs.Xor.{xors};
 ghost use Rattle.slices.specs.Over.{over};
 ghost use Rattle.argon2_block.specs.Rfc9106.{compress};
 ghost use Rattle.argon2_fill.specs.Rfc9106 as rfc9106;
-ghost use Rattle.argon2_fill.specs.State.{figures, position, Placed, Open, Room, Addressed, looks};
+ghost use Rattle.argon2_fill.specs.State.{figures, position, Fits, Room, Addressed, looks};
 
-use crate::places::{current, previous, times};
-use crate::reference::reference;
+use crate::places::{Place, times};
 use crate::{Figures, Position};
 
 // R: the exclusive or of the first 128 words of two slices.
@@ -70,7 +69,7 @@ pub(crate) fn looks_at(f: Figures, p: Position) -> bool
 
 // The block of addresses that holds a position's word.
 pub(crate) fn addresses(f: Figures, p: Position) -> [u64; 128]
-    requires { Placed (figures f) (position p) }
+    requires { Fits (figures f) }
     ensures { result ≡ rfc9106.addresses (figures f) (position p) (rfc9106.counter_of (position p)) }
 {
     let mut input = [0u64; 128];
@@ -86,19 +85,6 @@ pub(crate) fn addresses(f: Figures, p: Position) -> [u64; 128]
     input
 }
 
-// The word of a position.
-fn word(memory: &[u64], addresses: &[u64; 128], f: Figures, p: Position) -> u64
-    requires { Placed (figures f) (position p) × (Room (figures f) memory.now × Addressed (figures f) (position p) addresses.now) }
-    ensures { result ≡ rfc9106.chooser (figures f) memory.now (position p) }
-{
-    if looks_at(f, p) {
-        let i = p.index % 128;
-        return addresses[i];
-    }
-    let at = previous(f, p) * 128;
-    memory[at]
-}
-
 // Where a block of the memory begins.
 fn start_of(f: Figures, n: usize, words: usize) -> usize
     requires { (n < rfc9106.blocks (figures f)) × (rfc9106.blocks (figures f) * 128 ≤ words) }
@@ -107,33 +93,51 @@ fn start_of(f: Figures, n: usize, words: usize) -> usize
     n * 128
 }
 
-// R of a position.
-fn source(r: &mut [u64; 128], memory: &[u64], addresses: &[u64; 128], f: Figures, p: Position)
-    requires { (length r.old ≡ 128) × (Open (figures f) (position p)
-        × (Room (figures f) memory.now × Addressed (figures f) (position p) addresses.now)) }
-    ensures { r.new ≡ rfc9106.source (figures f) (position p)
-        (rfc9106.chooser (figures f) memory.now (position p)) memory.now }
-{
-    let w = word(memory, addresses, f, p);
-    let x = start_of(f, previous(f, p), memory.len());
-    let y = start_of(f, reference(f, p, w), memory.len());
-    mixed(r, &memory[x..], &memory[y..]);
-}
-
-// Fills the block of a position.
-pub(crate) fn fill_block(memory: &mut [u64], addresses: &[u64; 128], f: Figures, p: Position)
-    requires { Open (figures f) (position p) × (Room (figures f) memory.old × Addressed (figures f) (position p) addresses.now) }
-    ensures { memory.new
-        ≡ rfc9106.fill_block (rfc9106.chooser (figures f)) (figures f) (position p) memory.old }
-{
-    let mut r = [0u64; 128];
-    source(&mut r, memory, addresses, f, p);
-    let mut z = r;
-    argon2_block::permute(&mut z);
-    let at = start_of(f, current(f, p), memory.len());
-    if p.pass == 0 {
-        put_fresh(&mut memory[at..], &z, &r);
-        return;
+impl Place {
+    // The word of the position.
+    fn word(self, memory: &[u64], addresses: &[u64; 128]) -> u64
+        requires room { Room (figures self.f) memory.now }
+        requires addressed { Addressed (figures self.f) (position self.p) addresses.now }
+        ensures { result ≡ rfc9106.chooser (figures self.f) memory.now (position self.p) }
+    {
+        if looks_at(self.f, self.p) {
+            let i = self.p.index % 128;
+            return addresses[i];
+        }
+        let at = self.previous() * 128;
+        memory[at]
     }
-    put_over(&mut memory[at..], &z, &r);
+
+    // R of the position.
+    fn source(self, r: &mut [u64; 128], memory: &[u64], addresses: &[u64; 128])
+        requires block_len { length r.old ≡ 128 }
+        requires room { Room (figures self.f) memory.now }
+        requires addressed { Addressed (figures self.f) (position self.p) addresses.now }
+        ensures { r.new ≡ rfc9106.source (figures self.f) (position self.p)
+            (rfc9106.chooser (figures self.f) memory.now (position self.p)) memory.now }
+    {
+        let w = self.word(memory, addresses);
+        let x = start_of(self.f, self.previous(), memory.len());
+        let y = start_of(self.f, self.reference(w), memory.len());
+        mixed(r, &memory[x..], &memory[y..]);
+    }
+
+    // Fills the block of the position.
+    pub(crate) fn fill(self, memory: &mut [u64], addresses: &[u64; 128])
+        requires room { Room (figures self.f) memory.old }
+        requires addressed { Addressed (figures self.f) (position self.p) addresses.now }
+        ensures { memory.new
+            ≡ rfc9106.fill_block (rfc9106.chooser (figures self.f)) (figures self.f) (position self.p) memory.old }
+    {
+        let mut r = [0u64; 128];
+        self.source(&mut r, memory, addresses);
+        let mut z = r;
+        argon2_block::permute(&mut z);
+        let at = start_of(self.f, self.current(), memory.len());
+        if self.p.pass == 0 {
+            put_fresh(&mut memory[at..], &z, &r);
+            return;
+        }
+        put_over(&mut memory[at..], &z, &r);
+    }
 }

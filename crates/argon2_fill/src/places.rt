@@ -1,7 +1,7 @@
 // Where a block stands (RFC 9106, 3.4).
 ghost use Rattle.std.specs.Prelude.{◌≡◌, ◌+◌, ◌*◌, ◌≤◌, ◌<◌};
 ghost use Rattle.argon2_fill.specs.Rfc9106 as rfc9106;
-ghost use Rattle.argon2_fill.specs.State.{figures, position, Fits, Placed};
+ghost use Rattle.argon2_fill.specs.State.{figures, position, Open};
 
 use crate::{Figures, Position};
 
@@ -13,38 +13,46 @@ pub(crate) fn times(a: usize, b: usize) -> usize
     a * b
 }
 
-// The number of a lane's block.
-pub(crate) fn block_at(f: Figures, lane: usize, column: usize) -> usize
-    requires { Fits (figures f) × ((lane < f.lanes) × (column < 4 * f.segment)) }
-    ensures { result ≡ rfc9106.block_at (figures f) lane column }
-{
-    times(lane, 4 * f.segment) + column
+// A block that is to be filled: figures that a filling takes, and a position whose block is not a given one.
+#[derive(Clone, Copy)]
+pub(crate) struct Place {
+    pub f: Figures,
+    pub p: Position,
+    ghost is_open: { Open (figures f) (position p) },
 }
 
-// The column of a position.
-pub(crate) fn column(f: Figures, p: Position) -> usize
-    requires { Placed (figures f) (position p) }
-    ensures { result ≡ rfc9106.column (figures f) (position p) }
-{
-    times(p.slice, f.segment) + p.index
-}
-
-// The number of the block before, round the lane.
-pub(crate) fn previous(f: Figures, p: Position) -> usize
-    requires { Placed (figures f) (position p) }
-    ensures { result ≡ rfc9106.previous (figures f) (position p) }
-{
-    let j = column(f, p);
-    if j == 0 {
-        return block_at(f, p.lane, 4 * f.segment - 1);
+impl Place {
+    // The number of a lane's block.
+    pub(crate) fn block_at(self, lane: usize, column: usize) -> usize
+        requires lane_bound { lane < self.f.lanes }
+        requires column_bound { column < 4 * self.f.segment }
+        ensures { result ≡ rfc9106.block_at (figures self.f) lane column }
+    {
+        times(lane, 4 * self.f.segment) + column
     }
-    block_at(f, p.lane, j - 1)
-}
 
-// The number of a position's block.
-pub(crate) fn current(f: Figures, p: Position) -> usize
-    requires { Placed (figures f) (position p) }
-    ensures { result ≡ rfc9106.current (figures f) (position p) }
-{
-    block_at(f, p.lane, column(f, p))
+    // The column of the position.
+    pub(crate) fn column(self) -> usize
+        ensures { result ≡ rfc9106.column (figures self.f) (position self.p) }
+    {
+        times(self.p.slice, self.f.segment) + self.p.index
+    }
+
+    // The number of the block before, round the lane.
+    pub(crate) fn previous(self) -> usize
+        ensures { result ≡ rfc9106.previous (figures self.f) (position self.p) }
+    {
+        let j = self.column();
+        if j == 0 {
+            return self.block_at(self.p.lane, 4 * self.f.segment - 1);
+        }
+        self.block_at(self.p.lane, j - 1)
+    }
+
+    // The number of the block.
+    pub(crate) fn current(self) -> usize
+        ensures { result ≡ rfc9106.current (figures self.f) (position self.p) }
+    {
+        self.block_at(self.p.lane, self.column())
+    }
 }

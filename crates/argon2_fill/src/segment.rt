@@ -1,14 +1,15 @@
 // Segments, slices and passes, one after the other (RFC 9106, 3.4).
 ghost use Rattle.std.specs.Prelude.{◌≡◌, ◌+◌, ◌*◌, ◌/◌, ◌≤◌, ◌<◌, ◌-◌};
 ghost use Rattle.argon2_fill.specs.Rfc9106 as rfc9106;
-ghost use Rattle.argon2_fill.specs.State.{figures, position, Fits, Placed, Room, Addressed};
+ghost use Rattle.argon2_fill.specs.State.{figures, position, Fits, Room, Addressed};
 
-use crate::block::{addresses, fill_block, looks_at};
+use crate::block::{addresses, looks_at};
+use crate::places::Place;
 use crate::{Figures, Position};
 
 // The addresses of a position, zeros where they are not looked at.
 fn addresses_of(f: Figures, p: Position) -> [u64; 128]
-    requires { Placed (figures f) (position p) }
+    requires { Fits (figures f) }
     ensures { Addressed (figures f) (position p) result }
 {
     if looks_at(f, p) {
@@ -39,27 +40,19 @@ fn fill_segment(memory: &mut [u64], f: Figures, pass: usize, slice: usize, lane:
     let first = given(pass, slice);
     for n in 0..f.segment.div_ceil(128) {
         let start = n * 128;
-        let words = addresses_of(
-            f,
-            Position {
-                pass,
-                slice,
-                lane,
-                index: start,
-            },
-        );
+        let p = Position {
+            pass,
+            slice,
+            lane,
+            index: start,
+        };
+        let words = addresses_of(f, p);
         for index in first.max(start)..f.segment.min(start + 128) {
-            fill_block(
-                memory,
-                &words,
+            let place = Place {
                 f,
-                Position {
-                    pass,
-                    slice,
-                    lane,
-                    index,
-                },
-            );
+                p: Position { index, ..p },
+            };
+            place.fill(memory, &words);
         }
     }
 }

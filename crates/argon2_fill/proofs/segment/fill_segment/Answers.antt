@@ -33,18 +33,24 @@ loop-index-init c =
     let z : min a.f.segment (max p.index (l.n * 128)) ≡ c.max-index.result = omega arith in
     l.invariant ∙ ap (λ (n : ℕ). fill_from (chooser f) f p (n - p.index) a.memory.now) z
 
-pub fill_block-requires : goal.fill_block-requires
-fill_block-requires c =
+pub invariant_of-place : goal.invariant_of-place
+invariant_of-place c =
+    let l = c.loop-index in
+    let a = c.args in
+    let h = c.requires in
+    let g : c.given-first.result ≤ l.index = omega arith in
+    record {
+      is_open = segment_open (figures a.f) a.pass a.slice a.lane _ l.index h.fits h.slice_bound h.lane_bound
+          c.given-first.ensures g (omega arith);
+    }
+
+pub fill-requires-clause-addressed : goal.fill-requires-clause-addressed
+fill-requires-clause-addressed c =
     let l = c.loop-index in
     let a = c.args in
     let f = figures a.f in
-    let h = c.requires in
-    let r = h.room in
-    let g : c.given-first.result ≤ l.index = omega arith in
-    let p : Position = record { pass = a.pass; slice = a.slice; lane = a.lane; index = c.loop-n.n * 128 } in (
-      segment_open f a.pass a.slice a.lane _ l.index h.fits h.slice_bound h.lane_bound c.given-first.ensures g (omega arith),
-      (omega arith, addresses_same f p l.index c.addresses_of-words.result (omega arith) c.addresses_of-words.ensures),
-    )
+    let p : Position = record { pass = a.pass; slice = a.slice; lane = a.lane; index = c.loop-n.n * 128 } in
+    addresses_same f p l.index c.addresses_of-words.result (omega arith) c.addresses_of-words.ensures
 
 pub loop-index-preserved : goal.loop-index-preserved
 loop-index-preserved c =
@@ -52,7 +58,7 @@ loop-index-preserved c =
     let a = c.args in
     let f = figures a.f in
     let p : Position = record { pass = a.pass; slice = a.slice; lane = a.lane; index = c.given-first.result } in
-    fill_from_more (chooser f) f p l.index a.memory.now l.memory _ (omega arith) l.invariant c.fill_block.ensures
+    fill_from_more (chooser f) f p l.index a.memory.now l.memory _ (omega arith) l.invariant c.fill.ensures
 
 pub loop-n-preserved : goal.loop-n-preserved
 loop-n-preserved c =

@@ -1,0 +1,15 @@
+-- `argon2_fill::places::Place::finished` meets its contract. Assumes nothing.
+use mathlib.Core.Path.{sym, ◌∙◌}
+use Rattle.argon2_fill.specs.State.{figures, position}
+use Rattle.argon2_fill.proofs.Laws.Reference.{finished_first, finished_later}
+use Rattle.argon2_fill.proofs.places.Place.finished.Goals as goal
+
+pub returns-then-self-eq0 : goal.returns-then-self-eq0
+returns-then-self-eq0 c =
+    let a = c.args in
+    c.times.ensures.0 ∙ sym (finished_first (figures a.self.f) (position a.self.p) c.if-self-eq0.true)
+
+pub returns : goal.returns
+returns c =
+    let a = c.args in
+    sym (finished_later (figures a.self.f) (position a.self.p) c.if-self-eq0.false)
