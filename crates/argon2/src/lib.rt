@@ -85,39 +85,39 @@ pub fn hash(
     ensures memory_after { memory.new ≡ run.left result (run.inputs kind password.now salt.now secret.now associated.now passes bytes lanes (length out.old)) memory.old }
     ensures out_after { out.new ≡ run.shown result (run.inputs kind password.now salt.now secret.now associated.now passes bytes lanes (length out.old)) out.old }
 {
-    if refusals::limits::argon2_figures_fit(salt.len(), passes, bytes, lanes) {
-        if prehash::fits(password.len(), salt.len(), secret.len(), associated.len()) {
-            let m = kib_of(bytes);
-            let y = number_of(kind);
-            let segment = m / (4 * (lanes as usize));
-            let f = Figures {
-                lanes: lanes as usize,
-                segment,
-                passes: passes as usize,
-                kind: y as usize,
-            };
-            let blocks = f.lanes * (4 * f.segment);
-            let words = blocks * 128;
-            if memory.len() < words {
-                return Outcome::Refused(Refusal::NoRoom);
-            }
-            let h = prehash::h0(
-                y,
-                lanes,
-                out.len(),
-                m as u32,
-                passes as u32,
-                password,
-                salt,
-                secret,
-                associated,
-            );
-            fill_tag(&mut memory[..words], f, h, out);
-            return Outcome::Accepted;
-        }
+    if !refusals::limits::argon2_figures_fit(salt.len(), passes, bytes, lanes) {
+        return Outcome::Refused(Refusal::FigureOutside(0));
+    }
+    if !prehash::fits(password.len(), salt.len(), secret.len(), associated.len()) {
         return Outcome::Refused(Refusal::TooLong);
     }
-    Outcome::Refused(Refusal::FigureOutside(0))
+    let m = kib_of(bytes);
+    let y = number_of(kind);
+    let segment = m / (4 * (lanes as usize));
+    let f = Figures {
+        lanes: lanes as usize,
+        segment,
+        passes: passes as usize,
+        kind: y as usize,
+    };
+    let blocks = f.lanes * (4 * f.segment);
+    let words = blocks * 128;
+    if memory.len() < words {
+        return Outcome::Refused(Refusal::NoRoom);
+    }
+    let h = prehash::h0(
+        y,
+        lanes,
+        out.len(),
+        m as u32,
+        passes as u32,
+        password,
+        salt,
+        secret,
+        associated,
+    );
+    fill_tag(&mut memory[..words], f, h, out);
+    Outcome::Accepted
 }
 
 // T of a vault's composite key: salt S, passes I, memory M in bytes, lanes P.
