@@ -104,14 +104,12 @@ impl Transformation {
     fn is_open(self) -> bool
         ensures { result ≡ kdf.is_open (state.held self) }
     {
-        let mark = self.mark;
-        if let Mark::Refused = mark {
-            return false;
+        match self.mark {
+            Mark::Accepted => {
+                refusals::limits::rounds_fit(self.rounds as u64) && self.done <= self.rounds
+            }
+            Mark::Refused => false,
         }
-        if refusals::limits::rounds_fit(self.rounds as u64) {
-            return self.done <= self.rounds;
-        }
-        false
     }
 
     // How many rounds are left to do.
@@ -147,10 +145,8 @@ impl Transformation {
     pub fn finish(self) -> Transformed
         ensures { result ≡ state.finished self }
     {
-        if self.is_open() {
-            if self.done == self.rounds {
-                return self.joined();
-            }
+        if self.is_open() && self.done == self.rounds {
+            return self.joined();
         }
         Transformed {
             outcome: Outcome::Refused(Refusal::OutOfSequence),

@@ -10,9 +10,10 @@ returns-in-Refused c = rw c.in-Refused.is
 pub returns-then-rounds_fit : goal.returns-then-rounds_fit
 unfolding is_open
 returns-then-rounds_fit c =
-    rw (c.in_default.is, sym c.rounds_fit.ensures ∙ c.if-rounds_fit.true)
+    rw (c.in-Accepted.is, sym c.rounds_fit.ensures ∙ c.if-rounds_fit.true)
 
-pub returns : goal.returns
+pub returns-else-rounds_fit : goal.returns-else-rounds_fit
 unfolding is_open
-returns c =
-    rw (c.in_default.is, sym c.rounds_fit.ensures ∙ c.if-rounds_fit.false)
+returns-else-rounds_fit c =
+    rw (c.in-Accepted.is, sym c.rounds_fit.ensures ∙ c.if-rounds_fit.false)
+    c.if-rounds_fit.false
