@@ -16,7 +16,10 @@ mod places;
 mod reference;
 mod segment;
 
+use segment::Filling;
+
 // The lanes, the blocks of a segment, the passes, and the type's number: 0 for Argon2d, 2 for Argon2id.
+// (The number is no enum, since callers may pass any: all but 2 choose as Argon2d does.)
 #[derive(Clone, Copy)]
 pub struct Figures {
     pub lanes: usize,
@@ -50,6 +53,7 @@ pub fn fill(memory: &mut [u64], f: Figures)
     ensures { memory.new ≡ state.filled (state.figures f) memory.old }
 {
     if fits(f, memory.len()) {
-        segment::fill_passes(memory, f);
+        let filling = Filling { f };
+        filling.fill_passes(memory);
     }
 }

@@ -5,12 +5,15 @@ use Rattle.argon2_fill.specs.State.{figures}
 use Rattle.argon2_fill.proofs.Laws.Filled.{accepts-fits, accepts_room, filled_is, filled-not}
 use Rattle.argon2_fill.proofs.fill.Goals as goal
 
+pub invariant_of-filling : goal.invariant_of-filling
+invariant_of-filling c =
+    let a = c.args in
+    record { fits = accepts-fits (figures a.f) (length a.memory.now) (sym c.fits.ensures ∙ c.if-fits.true) }
+
 pub fill_passes-requires : goal.fill_passes-requires
 fill_passes-requires c =
     let a = c.args in
-    let f = figures a.f in
-    let t = sym c.fits.ensures ∙ c.if-fits.true in
-    record { fits = accepts-fits f (length a.memory.now) t; room = accepts_room f (length a.memory.now) t }
+    record { room = accepts_room (figures a.f) (length a.memory.now) (sym c.fits.ensures ∙ c.if-fits.true) }
 
 pub returns-then-fits : goal.returns-then-fits
 returns-then-fits c =
