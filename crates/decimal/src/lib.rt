@@ -19,15 +19,13 @@ pub fn decimal(n: usize) -> Digits
     ensures n_value { result.start + length (decimals.decimal n) ≡ 20 }
 {
     let mut text = [0u8; 20];
-    let mut at: usize = 20;
     let mut rest = n;
-    while 0 < at {
-        at -= 1;
+    for at in (0..20).rev() {
         text[at] = b'0' + (rest % 10) as u8;
         if rest < 10 {
             return Digits { text, start: at };
         }
-        rest = rest / 10;
+        rest /= 10;
     }
-    Digits { text, start: at }
+    Digits { text, start: 0 }
 }

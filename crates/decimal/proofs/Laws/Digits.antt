@@ -98,7 +98,7 @@ stands_more n t (suc k) rest s h l =
       digits_are = decimal_more k rest t f l ∙ s.digits_are;
     })
 
-pub stands_all : (n : ℕ) (t : List ℕ) (at rest : ℕ) → Stands n t at rest → at ≡ 0 → Ends n t at
+pub stands_all : (n : ℕ) (t : List ℕ) (at rest : ℕ) → Stands n t at rest → at ≡ 0 → Ends n t 0
 unfolding decimal_in
 stands_all n t zero rest s h = ends n t 0 s.long (omega arith) s.digits_are
 stands_all n t (suc k) rest s h = absurd (omega arith)

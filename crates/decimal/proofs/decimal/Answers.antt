@@ -9,9 +9,6 @@ use Rattle.decimal.proofs.decimal.Goals as goal
 pub loop-at-init : goal.loop-at-init
 loop-at-init c = stands_none _ _ refl
 
-pub bounds-text-at : goal.bounds-text-at
-bounds-text-at c = omega (arith, c.loop-at.invariant.at_le)
-
 pub returns-then-rest-lt10 : goal.returns-then-rest-lt10
 returns-then-rest-lt10 c =
     let l = c.loop-at in
@@ -26,9 +23,3 @@ pub returns : goal.returns
 returns c =
     let l = c.loop-at in
     stands_all _ _ _ _ l.invariant (omega arith)
-
-pub overflow_cast-text : goal.overflow_cast-text
-overflow_cast-text c = omega arith
-
-pub overflow_add-text : goal.overflow_add-text
-overflow_add-text c = omega arith

@@ -5,6 +5,3 @@ use Rattle.decimal.proofs.decimal.Given as goal
 
 abbrev pub invariant-loop-at : goal.invariant-loop-at
 invariant-loop-at l = Stands l.n l.text l.at l.rest
-
-abbrev pub decreases-loop-at : goal.decreases-loop-at
-decreases-loop-at l = l.at
