@@ -44,8 +44,7 @@ fn count_frames(s: &[u8]) -> usize
 {
     let mut n: usize = 1;
     let mut at: usize = 12;
-    let mut left = s.len();
-    while 0 < left {
+    for _ in 0..s.len() {
         let end = at + frame_len(s, at);
         n += 1;
         let id = words::byte_at(s, at);
@@ -53,7 +52,6 @@ fn count_frames(s: &[u8]) -> usize
             return n;
         }
         at = end;
-        left -= 1;
     }
     n
 }
@@ -66,8 +64,7 @@ fn put_fields(s: &[u8], out: &mut [u8])
 {
     let mut to: usize = 0;
     let mut at: usize = 12;
-    let mut left = s.len();
-    while 0 < left {
+    for _ in 0..s.len() {
         let n = frame_len(s, at);
         put_line(&mut out[to..], slices::part(s, at, n));
         if words::byte_at(s, at) == 0 {
@@ -75,7 +72,6 @@ fn put_fields(s: &[u8], out: &mut [u8])
         }
         to += 2 * n + 1;
         at += n;
-        left -= 1;
     }
 }
 
