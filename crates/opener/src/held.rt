@@ -59,10 +59,8 @@ fn keep(held: [u8; 16], h: usize, d: &[u8], at: usize) -> [u8; 16]
 {
     let n = h + d.len() - at;
     let mut a = [0u8; 16];
-    let mut i: usize = 0;
-    while i < n {
+    for i in 0..n {
         a[i] = joined_at(held, h, d, at + i);
-        i += 1;
     }
     a
 }

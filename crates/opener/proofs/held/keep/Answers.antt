@@ -12,18 +12,15 @@ pub loop-i-preserved : goal.loop-i-preserved
 loop-i-preserved c =
     let a = c.args in
     let s : List ℕ = take a.h a.held ++ a.d.now in
-    let n : length s ≡ a.h + length a.d.now = length_run a.held a.d.now a.h (search rules) in (
-      search rules,
-      rw c.joined_at.ensures
-          (padded_more s c.loop-i.a a.at c.loop-i.i c.loop-i.invariant.1 (search rules) (omega arith)),
-    )
+    let n : length s ≡ a.h + length a.d.now = length_run a.held a.d.now a.h (search rules) in
+    rw c.joined_at.ensures (padded_more s c.loop-i.a a.at c.loop-i.i c.loop-i.invariant (search rules) (omega arith))
 
 pub returns : goal.returns
 returns c =
     let a = c.args in
     let s : List ℕ = take a.h a.held ++ a.d.now in
     let n : length s ≡ a.h + length a.d.now = length_run a.held a.d.now a.h (search rules) in
-    padded_all s c.loop-i.a a.at c.loop-i.i c.loop-i.invariant.1 (simp length-drop (omega arith))
+    padded_all s c.loop-i.a a.at c.loop-i.i c.loop-i.invariant (simp length-drop (omega arith))
 
 pub loop-i-init : goal.loop-i-init
-loop-i-init c = (search rules, refl)
+loop-i-init c = refl

@@ -1,7 +1,0 @@
--- `states::arrays::bytes12_at` meets its contract. Assumes nothing.
-use Rattle.states.proofs.Laws.Parts.{copied_at}
-use Rattle.states.proofs.arrays.bytes12_at.Goals as goal
-
-pub returns : goal.returns
-returns c =
-    copied_at c.args.s.now c.copy.new.out c.args.at 12 c.requires c.copy.ensures
