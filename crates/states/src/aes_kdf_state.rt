@@ -22,10 +22,10 @@ fn byte_of(m: Mark) -> u8
 fn mark_of(b: u8) -> Mark
     ensures { result ≡ state.mark_of b }
 {
-    if b == 1 {
-        return Mark::Accepted;
+    match b {
+        1 => Mark::Accepted,
+        _ => Mark::Refused,
     }
-    Mark::Refused
 }
 
 // The bytes of a state.
@@ -56,8 +56,8 @@ pub fn unpack(b: [u8; 281]) -> Transformation
 {
     let mut words = [0u32; 60];
     crate::arrays::read_words32(&mut words, &b, 1);
-    let left = crate::arrays::bytes16_at(&b, 241);
-    let right = crate::arrays::bytes16_at(&b, 257);
+    let left = crate::arrays::array(&b, 241);
+    let right = crate::arrays::array(&b, 257);
     let done = words::le::u32_at(&b, 273);
     let rounds = words::le::u32_at(&b, 277);
     Transformation {

@@ -22,13 +22,11 @@ fn byte_of(c: StreamCipher) -> u8
 fn cipher_of(b: u8) -> StreamCipher
     ensures { result ≡ state.cipher_of b }
 {
-    if b == 2 {
-        return StreamCipher::Salsa20;
+    match b {
+        2 => StreamCipher::Salsa20,
+        3 => StreamCipher::ChaCha20,
+        _ => StreamCipher::Closed,
     }
-    if b == 3 {
-        return StreamCipher::ChaCha20;
-    }
-    StreamCipher::Closed
 }
 
 // The bytes of a state.
@@ -52,8 +50,8 @@ pub fn pack(s: InnerStream) -> [u8; 53]
 pub fn unpack(b: [u8; 53]) -> InnerStream
     ensures { result ≡ state.unpacked b }
 {
-    let key = crate::arrays::bytes32_at(&b, 1);
-    let nonce = crate::arrays::bytes12_at(&b, 33);
+    let key = crate::arrays::array(&b, 1);
+    let nonce = crate::arrays::array(&b, 33);
     let position = words::le::u64_at(&b, 45);
     InnerStream {
         cipher: cipher_of(b[0]),

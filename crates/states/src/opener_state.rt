@@ -36,26 +36,21 @@ fn byte_of(c: Cipher) -> u8
 fn phase_of(m: u8, c: u8) -> Phase
     ensures { result ≡ state.phase_of m c }
 {
-    if m == 1 {
-        if c < 2 {
-            return Phase::Open;
-        }
-        return Phase::Closed;
+    match (m, c) {
+        (1, 0..=1) => Phase::Open,
+        (2, _) => Phase::Ended,
+        _ => Phase::Closed,
     }
-    if m == 2 {
-        return Phase::Ended;
-    }
-    Phase::Closed
 }
 
 // The cipher of a byte.
 fn cipher_of(c: u8) -> Cipher
     ensures { result ≡ state.cipher_of c }
 {
-    if c == 1 {
-        return Cipher::ChaCha20;
+    match c {
+        1 => Cipher::ChaCha20,
+        _ => Cipher::Aes256,
     }
-    Cipher::Aes256
 }
 
 // Writes the marks and the numbers over the front: 26 bytes.
@@ -111,11 +106,11 @@ fn keys_in(b: &[u8]) -> Keys
     requires { 410 ≤ length b.now }
     ensures { result ≡ state.keys_in b.now }
 {
-    let key = crate::arrays::bytes32_at(b, 58);
+    let key = crate::arrays::array(b, 58);
     let mut words = [0u32; 60];
     crate::arrays::read_words32(&mut words, b, 90);
-    let nonce = crate::arrays::bytes16_at(b, 330);
-    let base = crate::arrays::bytes64_at(b, 346);
+    let nonce = crate::arrays::array(b, 330);
+    let base = crate::arrays::array(b, 346);
     Keys {
         cipher: cipher_of(b[1]),
         key,
@@ -132,8 +127,8 @@ pub fn unpack(b: [u8; 410]) -> Opener
     let number = words::le::u64_at(&b, 2);
     let at = words::le::u64_at(&b, 10) as usize;
     let taken = words::le::u64_at(&b, 18) as usize;
-    let prev = crate::arrays::bytes16_at(&b, 26);
-    let held = crate::arrays::bytes16_at(&b, 42);
+    let prev = crate::arrays::array(&b, 26);
+    let held = crate::arrays::array(&b, 42);
     let keys = keys_in(&b);
     Opener {
         phase: phase_of(b[0], b[1]),

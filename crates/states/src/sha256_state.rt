@@ -26,7 +26,7 @@ pub fn unpack(b: [u8; 100]) -> Sha256
 {
     let mut chain = [0u32; 8];
     crate::arrays::read_words32(&mut chain, &b, 0);
-    let buffer = crate::arrays::bytes64_at(&b, 32);
+    let buffer = crate::arrays::array(&b, 32);
     let total = words::le::u32_at(&b, 96);
     Sha256 {
         chain,

@@ -26,7 +26,7 @@ pub fn unpack(b: [u8; 196]) -> Sha512
 {
     let mut chain = [0u64; 8];
     crate::arrays::read_words64(&mut chain, &b, 0);
-    let buffer = crate::arrays::bytes128_at(&b, 64);
+    let buffer = crate::arrays::array(&b, 64);
     let total = words::le::u32_at(&b, 192);
     Sha512 {
         chain,

@@ -9,7 +9,7 @@ returns c =
       c.mark_of.ensures,
       c.u32_at-rounds.ensures,
       c.u32_at-done.ensures,
-      c.bytes16_at-right.ensures,
-      c.bytes16_at-left.ensures,
+      c.array-right.ensures,
+      c.array-left.ensures,
       c.read_words32.ensures,
     )

@@ -10,22 +10,16 @@ use borrow.Author.Rules.{rules}
 use Rattle.states.proofs.arrays.put_words64.Goals as goal
 
 pub loop-i-init : goal.loop-i-init
-loop-i-init c =
-    let a = c.args in
-    (search rules, (refl, word_bytes_none 8 a.w.now a.out.now a.at))
+loop-i-init c = word_bytes_none 8 c.args.w.now c.args.out.now c.args.at
 
 pub loop-i-preserved : goal.loop-i-preserved
 loop-i-preserved c =
     let l = c.loop-i in
     let a = c.args in
-    let w = a.w.now in
-    let d = a.out.now in
-    let e = word_bytes_more 8 w d l.out a.at l.i _ (omega arith) (omega arith) l.invariant.1.1 refl
-    c.put_u64.ensures in
-    (search rules, (ap length e ∙ length-put_at a.at (word_bytes 8 (take (l.i + 1) w)) d, e))
+    word_bytes_more 8 a.w.now a.out.now l.out a.at l.i _ (omega arith) (omega arith) l.invariant refl c.put_u64.ensures
 
 pub returns : goal.returns
 returns c =
     let l = c.loop-i in
     let a = c.args in
-    word_bytes_all 8 a.w.now a.out.now l.out a.at l.i (omega arith) l.invariant.1.1
+    word_bytes_all 8 a.w.now a.out.now l.out a.at l.i (omega arith) l.invariant

@@ -9,23 +9,15 @@ use Rattle.states.proofs.arrays.read_words32.Goals as goal
 
 pub loop-i-init : goal.loop-i-init
 unfolding words_at
-loop-i-init c = (search rules, (refl, refl))
+loop-i-init c = refl
 
 pub loop-i-preserved : goal.loop-i-preserved
 loop-i-preserved c =
     let l = c.loop-i in
-    let a = c.args in (
-      search rules,
-      (
-        simp length-set (search rules),
-        words_at_more 4 a.s.now l.w a.at l.i c.u32_at.result (omega arith) l.invariant.1.1
-            c.u32_at.ensures,
-      ),
-    )
+    words_at_more 4 c.args.s.now l.w c.args.at l.i _ (omega arith) l.invariant c.u32_at.ensures
 
 pub returns : goal.returns
 returns c =
     let l = c.loop-i in
     let a = c.args in
-    words_at_all 4 a.s.now l.w a.at l.i (length a.w.now) (omega arith) l.invariant.1.0
-    l.invariant.1.1
+    words_at_all 4 a.s.now l.w a.at l.i (length a.w.now) (omega arith) (search rules) l.invariant

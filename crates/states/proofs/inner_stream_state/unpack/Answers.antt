@@ -8,6 +8,6 @@ returns c =
     cc (
       c.cipher_of.ensures,
       c.u64_at-position.ensures,
-      c.bytes12_at-nonce.ensures,
-      c.bytes32_at-key.ensures,
+      c.array-nonce.ensures,
+      c.array-key.ensures,
     )

@@ -6,8 +6,8 @@ pub returns : goal.returns
 unfolding keys_in
 returns c =
     let cipher = c.cipher_of.ensures in
-    let base = c.bytes64_at-base.ensures in
-    let nonce = c.bytes16_at-nonce.ensures in
+    let base = c.array-base.ensures in
+    let nonce = c.array-nonce.ensures in
     let words = c.read_words32.ensures in
-    let key = c.bytes32_at-key.ensures in
+    let key = c.array-key.ensures in
     cc (cipher, key, words, nonce, base)

@@ -8,8 +8,8 @@ returns c =
     cc (
       c.phase_of.ensures,
       c.keys_in-keys.ensures,
-      c.bytes16_at-held.ensures,
-      c.bytes16_at-prev.ensures,
+      c.array-held.ensures,
+      c.array-prev.ensures,
       c.u64_at-taken.ensures,
       c.u64_at-at.ensures,
       c.u64_at-number.ensures,

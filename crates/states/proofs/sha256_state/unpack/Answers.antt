@@ -6,6 +6,6 @@ pub returns : goal.returns
 unfolding unpacked
 returns c =
     let total = c.u32_at-total.ensures in
-    let buffer = c.bytes64_at-buffer.ensures in
+    let buffer = c.array-buffer.ensures in
     let chain = c.read_words32.ensures in
     cc (total, buffer, chain)
