@@ -5,6 +5,7 @@
 ghost use Rattle.std.specs.Prelude.{◌≡◌};
 ghost use Rattle.states.specs.AesKdfState as state;
 
+use crate::arrays::{array, put_words32, read_words32};
 use aes::RoundKeys;
 use aes_kdf::{Mark, Transformation};
 
@@ -32,19 +33,13 @@ fn mark_of(b: u8) -> Mark
 pub fn pack(t: Transformation) -> [u8; 281]
     ensures { result ≡ state.packed t }
 {
-    let mark = t.mark;
-    let keys = t.keys;
-    let round_keys = keys.words;
-    let left = t.left;
-    let right = t.right;
     let done = words::le::bytes32(t.done);
     let rounds = words::le::bytes32(t.rounds);
-    let first = [byte_of(mark)];
     let mut out = [0u8; 281];
-    slices::put(&mut out, 0, &first);
-    crate::arrays::put_words32(&mut out, 1, &round_keys);
-    slices::put(&mut out, 241, &left);
-    slices::put(&mut out, 257, &right);
+    slices::put(&mut out, 0, &[byte_of(t.mark)]);
+    put_words32(&mut out, 1, &t.keys.words);
+    slices::put(&mut out, 241, &t.left);
+    slices::put(&mut out, 257, &t.right);
     slices::put(&mut out, 273, &done);
     slices::put(&mut out, 277, &rounds);
     out
@@ -55,9 +50,9 @@ pub fn unpack(b: [u8; 281]) -> Transformation
     ensures { result ≡ state.unpacked b }
 {
     let mut words = [0u32; 60];
-    crate::arrays::read_words32(&mut words, &b, 1);
-    let left = crate::arrays::array(&b, 241);
-    let right = crate::arrays::array(&b, 257);
+    read_words32(&mut words, &b, 1);
+    let left = array(&b, 241);
+    let right = array(&b, 257);
     let done = words::le::u32_at(&b, 273);
     let rounds = words::le::u32_at(&b, 277);
     Transformation {

@@ -5,6 +5,7 @@
 ghost use Rattle.std.specs.Prelude.{◌≡◌};
 ghost use Rattle.states.specs.InnerStreamState as state;
 
+use crate::arrays::array;
 use inner_stream::{InnerStream, StreamCipher};
 
 // The byte of a cipher.
@@ -33,15 +34,11 @@ fn cipher_of(b: u8) -> StreamCipher
 pub fn pack(s: InnerStream) -> [u8; 53]
     ensures { result ≡ state.packed s }
 {
-    let cipher = s.cipher;
-    let key = s.key;
-    let nonce = s.nonce;
     let position = words::le::bytes64(s.position);
-    let first = [byte_of(cipher)];
     let mut out = [0u8; 53];
-    slices::put(&mut out, 0, &first);
-    slices::put(&mut out, 1, &key);
-    slices::put(&mut out, 33, &nonce);
+    slices::put(&mut out, 0, &[byte_of(s.cipher)]);
+    slices::put(&mut out, 1, &s.key);
+    slices::put(&mut out, 33, &s.nonce);
     slices::put(&mut out, 45, &position);
     out
 }
@@ -50,8 +47,8 @@ pub fn pack(s: InnerStream) -> [u8; 53]
 pub fn unpack(b: [u8; 53]) -> InnerStream
     ensures { result ≡ state.unpacked b }
 {
-    let key = crate::arrays::array(&b, 1);
-    let nonce = crate::arrays::array(&b, 33);
+    let key = array(&b, 1);
+    let nonce = array(&b, 33);
     let position = words::le::u64_at(&b, 45);
     InnerStream {
         cipher: cipher_of(b[0]),

@@ -7,6 +7,7 @@ ghost use Rattle.std.specs.Prelude.{◌≡◌, ◌≤◌, length};
 ghost use Rattle.slices.specs.Over.{put_at};
 ghost use Rattle.states.specs.OpenerState as state;
 
+use crate::arrays::{array, put_words32, read_words32};
 use aes::RoundKeys;
 use ciphers::Cipher;
 use opening::{Keys, Opener, Phase};
@@ -57,10 +58,7 @@ fn cipher_of(c: u8) -> Cipher
 fn put_figures(out: &mut [u8], o: Opener)
     ensures { out.new ≡ put_at 0 (state.figures o) out.old }
 {
-    let phase = o.phase;
-    let keys = o.keys;
-    let cipher = keys.cipher;
-    let marks = [mark_of(phase), byte_of(cipher)];
+    let marks = [mark_of(o.phase), byte_of(o.keys.cipher)];
     let number = words::le::bytes64(o.number);
     let at = words::le::bytes64(o.at as u64);
     let taken = words::le::bytes64(o.taken as u64);
@@ -75,29 +73,21 @@ fn put_keys(out: &mut [u8], k: Keys)
     requires { 410 ≤ length out.old }
     ensures { out.new ≡ put_at 58 (state.keys k) out.old }
 {
-    let key = k.key;
-    let schedule = k.round_keys;
-    let round_keys = schedule.words;
-    let nonce = k.nonce;
-    let base = k.base;
-    slices::put(out, 58, &key);
-    crate::arrays::put_words32(out, 90, &round_keys);
-    slices::put(out, 330, &nonce);
-    slices::put(out, 346, &base);
+    slices::put(out, 58, &k.key);
+    put_words32(out, 90, &k.round_keys.words);
+    slices::put(out, 330, &k.nonce);
+    slices::put(out, 346, &k.base);
 }
 
 // The bytes of a state.
 pub fn pack(o: Opener) -> [u8; 410]
     ensures { result ≡ state.packed o }
 {
-    let prev = o.prev;
-    let held = o.held;
-    let keys = o.keys;
     let mut out = [0u8; 410];
     put_figures(&mut out, o);
-    slices::put(&mut out, 26, &prev);
-    slices::put(&mut out, 42, &held);
-    put_keys(&mut out, keys);
+    slices::put(&mut out, 26, &o.prev);
+    slices::put(&mut out, 42, &o.held);
+    put_keys(&mut out, o.keys);
     out
 }
 
@@ -106,11 +96,11 @@ fn keys_in(b: &[u8]) -> Keys
     requires { 410 ≤ length b.now }
     ensures { result ≡ state.keys_in b.now }
 {
-    let key = crate::arrays::array(b, 58);
+    let key = array(b, 58);
     let mut words = [0u32; 60];
-    crate::arrays::read_words32(&mut words, b, 90);
-    let nonce = crate::arrays::array(b, 330);
-    let base = crate::arrays::array(b, 346);
+    read_words32(&mut words, b, 90);
+    let nonce = array(b, 330);
+    let base = array(b, 346);
     Keys {
         cipher: cipher_of(b[1]),
         key,
@@ -127,8 +117,8 @@ pub fn unpack(b: [u8; 410]) -> Opener
     let number = words::le::u64_at(&b, 2);
     let at = words::le::u64_at(&b, 10) as usize;
     let taken = words::le::u64_at(&b, 18) as usize;
-    let prev = crate::arrays::array(&b, 26);
-    let held = crate::arrays::array(&b, 42);
+    let prev = array(&b, 26);
+    let held = array(&b, 42);
     let keys = keys_in(&b);
     Opener {
         phase: phase_of(b[0], b[1]),

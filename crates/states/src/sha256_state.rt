@@ -4,18 +4,17 @@
 ghost use Rattle.std.specs.Prelude.{◌≡◌};
 ghost use Rattle.states.specs.Sha256State as state;
 
+use crate::arrays::{array, put_words32, read_words32};
 use sha256::Sha256;
 
 // The bytes of a state.
 pub fn pack(s: Sha256) -> [u8; 100]
     ensures { result ≡ state.packed s }
 {
-    let chain = s.chain;
-    let buffer = s.buffer;
     let total = words::le::bytes32(s.total);
     let mut out = [0u8; 100];
-    crate::arrays::put_words32(&mut out, 0, &chain);
-    slices::put(&mut out, 32, &buffer);
+    put_words32(&mut out, 0, &s.chain);
+    slices::put(&mut out, 32, &s.buffer);
     slices::put(&mut out, 96, &total);
     out
 }
@@ -25,8 +24,8 @@ pub fn unpack(b: [u8; 100]) -> Sha256
     ensures { result ≡ state.unpacked b }
 {
     let mut chain = [0u32; 8];
-    crate::arrays::read_words32(&mut chain, &b, 0);
-    let buffer = crate::arrays::array(&b, 32);
+    read_words32(&mut chain, &b, 0);
+    let buffer = array(&b, 32);
     let total = words::le::u32_at(&b, 96);
     Sha256 {
         chain,

@@ -4,18 +4,17 @@
 ghost use Rattle.std.specs.Prelude.{◌≡◌};
 ghost use Rattle.states.specs.Sha512State as state;
 
+use crate::arrays::{array, put_words64, read_words64};
 use sha512::Sha512;
 
 // The bytes of a state.
 pub fn pack(s: Sha512) -> [u8; 196]
     ensures { result ≡ state.packed s }
 {
-    let chain = s.chain;
-    let buffer = s.buffer;
     let total = words::le::bytes32(s.total);
     let mut out = [0u8; 196];
-    crate::arrays::put_words64(&mut out, 0, &chain);
-    slices::put(&mut out, 64, &buffer);
+    put_words64(&mut out, 0, &s.chain);
+    slices::put(&mut out, 64, &s.buffer);
     slices::put(&mut out, 192, &total);
     out
 }
@@ -25,8 +24,8 @@ pub fn unpack(b: [u8; 196]) -> Sha512
     ensures { result ≡ state.unpacked b }
 {
     let mut chain = [0u64; 8];
-    crate::arrays::read_words64(&mut chain, &b, 0);
-    let buffer = crate::arrays::array(&b, 64);
+    read_words64(&mut chain, &b, 0);
+    let buffer = array(&b, 64);
     let total = words::le::u32_at(&b, 192);
     Sha512 {
         chain,

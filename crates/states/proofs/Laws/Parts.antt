@@ -4,7 +4,6 @@
 --   Put, put_first, put_more, put_all    parts laid behind each other from a place on, and over all
 --   joined, Lies                         parts that stand one behind the other from a place on
 --   lies_part, lies_next                 the first of them, and those behind it
---   copied_at                            so many bytes from a place on, as code copies them
 -- Not here: words (Words).
 -- Assumes nothing.
 use mathlib.Core.Path.{◌≡◌, sym, ap, ◌∙◌}
@@ -62,13 +61,3 @@ pub lies_next : {s x : List ℕ} {at : ℕ} {xs : List (List ℕ)} → Lies s at
     → Lies s (at + n) xs
 lies_next {s} {x} {at} {xs} p n l =
     record { is = sym (drop-drop n at s) ∙ ap (drop n) p.is ∙ drop_at x (joined xs) n l }
-
--- n bytes from `at` on, copied over zeros
-pub copied_at : (s y : List ℕ) (at n : ℕ) → at + n ≤ length s
-    → y ≡ over (take (length (zeros n)) (take (length s - at) (drop at s))) (zeros n)
-    → y ≡ take n (drop at s)
-copied_at s y at n h e =
-    let z : length (zeros n) ≡ n = length-replicate n 0 in
-    let m : length (take n (drop at s)) ≡ n = length-take-le n (drop at s) (simp length-drop (omega arith)) in
-    let l : length (zeros n) ≤ length (take n (drop at s)) = omega arith in
-    rw (part-tail at s, z) at e ∙ over_all (take n (drop at s)) (zeros n) l

@@ -2,7 +2,6 @@
 --
 -- In order:
 --   length-word_bytes                                  k bytes for each word
---   sets-put_at                                        stores one after the other are a part laid at a place
 --   word_bytes_none, word_bytes_more, word_bytes_all     words written one after the other
 --   words_at_more, words_at_all                         words read one after the other
 --   le_back, words_at_back                             a number, and words, read from their own bytes
@@ -15,19 +14,12 @@ use native.Mathlib.Nat.{suc-mul, zero-mul, zero-add, mod-eq_of_lt}
 use native.Mathlib.Numerals.{add-one}
 use native.Mathlib.Omega.{arith}
 use lib.ListN.{length, get_or, take, drop, set, length-append, length-drop, take-append-drop}
-use lib.Seq.{take-nil, take-suc, take-suc-set, take_all, drop-cons, drop_at, length-take-le, drop-drop, sets, sets-eq}
+use lib.Seq.{take-nil, take-suc, take-suc-set, take_all, drop-cons, drop_at, length-take-le}
 use Rattle.words.specs.Endian.{le, le_bytes}
 use Rattle.words.proofs.Laws.Endian.{le-take, le-append, le-drop, length-le_bytes, le-le_bytes}
 use Rattle.slices.specs.Over.{over, put_at}
 use Rattle.slices.proofs.Laws.Put.{length-put_at, put_at-put_at}
 use Rattle.states.specs.Words.{word_bytes, words_at, Words}
-
--- stores one after the other
-pub sets-put_at : (w d : List ℕ) (at : ℕ) → at + length w ≤ length d → sets d at w ≡ put_at at w d
-unfolding put_at over
-sets-put_at w d at h =
-    let l : length w ≤ length (drop at d) = simp length-drop (omega arith) in
-    sets-eq w d at h ∙ rw (take_all (length (drop at d)) w l, drop-drop, append_assoc)
 
 put_at_none : (at : ℕ) (d : List ℕ) → put_at at [] d ≡ d
 unfolding put_at over
@@ -56,18 +48,15 @@ module _ (k : ℕ) where
   word_bytes_none w d at = sym (put_at_none at d)
 
   -- one word more
-  pub word_bytes_more : (w d x : List ℕ) (at i v : ℕ) {y : List ℕ} → i < length w → at + i * k + k ≤ length d
-      → x ≡ put_at at (word_bytes k (take i w)) d → v ≡ get_or w i 0 → y ≡ sets x (at + i * k) (le_bytes k v)
+  pub word_bytes_more : (w d x : List ℕ) (at i : ℕ) (v : List ℕ) {y : List ℕ} → i < length w → at + i * k + k ≤ length d
+      → x ≡ put_at at (word_bytes k (take i w)) d → v ≡ le_bytes k (get_or w i 0) → y ≡ put_at (at + i * k) v x
       → y ≡ put_at at (word_bytes k (take (i + 1) w)) d
   word_bytes_more w d x at i v {y} h l e f g =
       let b : List ℕ = word_bytes k (take i w) in
       let n : length b ≡ i * k =
       length-word_bytes (take i w) ∙ ap (λ (m : ℕ). m * k) (length-take-le i w (omega arith)) in
-      let m : length x ≡ length d = ap length e ∙ length-put_at at b d in
-      let o : length (le_bytes k v) ≡ k = length-le_bytes k v in
-      g ∙ sets-put_at (le_bytes k v) x (at + i * k) (omega arith)
-      ∙ ap (λ (z : List ℕ). put_at (at + i * k) (le_bytes k v) z) e
-      ∙ put_at-put_at b (le_bytes k v) d at (i * k) n (omega arith)
+      g ∙ ap (λ (z : List ℕ). put_at (at + i * k) v z) e
+      ∙ put_at-put_at b v d at (i * k) n (omega arith)
       ∙ rw (add-one, word_bytes-suc w i h, f)
 
   pub word_bytes_all : (w d x : List ℕ) (at i : ℕ) → length w ≤ i → x ≡ put_at at (word_bytes k (take i w)) d

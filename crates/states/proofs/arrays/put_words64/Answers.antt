@@ -16,7 +16,8 @@ pub loop-i-preserved : goal.loop-i-preserved
 loop-i-preserved c =
     let l = c.loop-i in
     let a = c.args in
-    word_bytes_more 8 a.w.now a.out.now l.out a.at l.i _ (omega arith) (omega arith) l.invariant refl c.put_u64.ensures
+    word_bytes_more 8 a.w.now a.out.now l.out a.at l.i _ (omega arith) (omega arith) l.invariant c.bytes64.ensures
+    c.put.ensures
 
 pub returns : goal.returns
 returns c =
