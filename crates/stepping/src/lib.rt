@@ -19,8 +19,7 @@ fn run_steps(first: Opener, f: &[u8], out: &mut [u8]) -> Written
 {
     let mut o = first;
     let mut at: usize = 0;
-    let mut left = f.len();
-    while left > 0 {
+    for _ in 0..f.len() {
         let s = opener::step(o, f, &mut out[at..]);
         let answer = s.answer;
         let next = s.next;
@@ -33,7 +32,6 @@ fn run_steps(first: Opener, f: &[u8], out: &mut [u8]) -> Written
                 }
                 at += n;
                 o = next;
-                left -= 1;
             }
         }
     }
