@@ -8,14 +8,11 @@
 -- Assumes nothing.
 use mathlib.Core.Path.{◌≡◌, sym, ap, ◌∙◌}
 use mathlib.Core.List.{List, [], ◌∷◌, ◌++◌}
-use Prim.Native.Nat.{ℕ, ◌+◌, ◌-◌, ◌≤◌}
-use native.Mathlib.Omega.{arith}
-use lib.ListN.{length, take, drop, length-append, length-drop, length-replicate}
-use lib.Seq.{take_at, drop_at, drop-drop, length-take-le}
-use Rattle.slices.specs.Over.{over, put_at}
-use Rattle.slices.proofs.Laws.Over.{over_all, over_whole}
-use Rattle.slices.proofs.Laws.Parts.{part-tail}
-use Rattle.slices.proofs.Laws.Zeros.{zeros}
+use Prim.Native.Nat.{ℕ, ◌+◌, ◌≤◌}
+use lib.ListN.{length, take, drop, length-append}
+use lib.Seq.{take_at, drop_at, drop-drop}
+use Rattle.slices.specs.Over.{put_at}
+use Rattle.slices.proofs.Laws.Over.{over_whole}
 use Rattle.slices.proofs.Laws.Put.{put_at-put_at, laid_first}
 
 -- y is d with the n bytes w laid from `at` on

@@ -13,12 +13,12 @@ use Prim.Native.Nat.{ℕ, zero, suc, ◌+◌, ◌*◌, ◌^◌, ◌≤◌, ◌<�
 use native.Mathlib.Nat.{suc-mul, zero-mul, zero-add, mod-eq_of_lt}
 use native.Mathlib.Numerals.{add-one}
 use native.Mathlib.Omega.{arith}
-use lib.ListN.{length, get_or, take, drop, set, length-append, length-drop, take-append-drop}
+use lib.ListN.{length, get_or, take, drop, set, length-append, take-append-drop}
 use lib.Seq.{take-nil, take-suc, take-suc-set, take_all, drop-cons, drop_at, length-take-le}
 use Rattle.words.specs.Endian.{le, le_bytes}
 use Rattle.words.proofs.Laws.Endian.{le-take, le-append, le-drop, length-le_bytes, le-le_bytes}
 use Rattle.slices.specs.Over.{over, put_at}
-use Rattle.slices.proofs.Laws.Put.{length-put_at, put_at-put_at}
+use Rattle.slices.proofs.Laws.Put.{put_at-put_at}
 use Rattle.states.specs.Words.{word_bytes, words_at, Words}
 
 put_at_none : (at : ℕ) (d : List ℕ) → put_at at [] d ≡ d

@@ -1,12 +1,6 @@
 -- `states::arrays::put_words32` meets its contract. The invariant: the first i words are written. Assumes nothing.
-use mathlib.Core.Path.{refl, ap, ◌∙◌}
-use Prim.Native.Nat.{◌+◌}
 use native.Mathlib.Omega.{arith}
-use lib.ListN.{length, take}
-use Rattle.slices.proofs.Laws.Put.{length-put_at}
-use Rattle.states.specs.Words.{word_bytes}
 use Rattle.states.proofs.Laws.Words.{word_bytes_none, word_bytes_more, word_bytes_all}
-use borrow.Author.Rules.{rules}
 use Rattle.states.proofs.arrays.put_words32.Goals as goal
 
 pub loop-i-init : goal.loop-i-init

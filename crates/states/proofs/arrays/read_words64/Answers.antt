@@ -1,7 +1,7 @@
 -- `states::arrays::read_words64` meets its contract. The invariant: the first i words are read. Assumes nothing.
 use mathlib.Core.Path.{refl}
 use native.Mathlib.Omega.{arith}
-use lib.ListN.{length, length-set}
+use lib.ListN.{length}
 use Rattle.states.specs.Words.{words_at}
 use Rattle.states.proofs.Laws.Words.{words_at_more, words_at_all}
 use borrow.Author.Rules.{rules}
