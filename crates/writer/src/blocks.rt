@@ -123,15 +123,8 @@ pub(crate) fn write_blocks(keys: Keys, payload: &[u8], out: &mut [u8])
     let mut number: u64 = 0;
     let mut at: usize = 0;
     let mut done: usize = 0;
-    while size <= payload.len() - done {
-        let next = put_block(
-            keys,
-            prev,
-            number,
-            done as u64,
-            &payload[done..done + size],
-            &mut out[at..],
-        );
+    for piece in payload.chunks_exact(size) {
+        let next = put_block(keys, prev, number, done as u64, piece, &mut out[at..]);
         prev = next;
         number += 1;
         at += 36 + size;

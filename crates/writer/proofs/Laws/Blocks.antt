@@ -70,12 +70,11 @@ pub record Turned (k : Keys) (w d v a : List ℕ) (i p at n : ℕ) : Type 0 wher
   pub piece : length a ≡ n
   pub pieces : n % 16 ≡ 0
 
-pub blocks-turn : (k : Keys) (w d v a : List ℕ) (i p at n m : ℕ) → n ≡ written_block → length v ≡ 16 → p + n ≤ length d
-    → at ≤ length w → m ≡ n → a ≡ take m (drop p d) → drop at w ≡ last_blocks k v i p (drop p d)
+pub blocks-turn : (k : Keys) (w d v a : List ℕ) (i p at n : ℕ) → n ≡ written_block → length v ≡ 16 → p + n ≤ length d
+    → at ≤ length w → a ≡ take n (drop p d) → drop at w ≡ last_blocks k v i p (drop p d)
     → Turned k w d v a i p at n
-blocks-turn k w d v a i p at n m en lv l la em ea e =
+blocks-turn k w d v a i p at n en lv l la f e =
     let c = k.cipher in
-    let f : a ≡ take n (drop p d) = ea ∙ ap (λ (j : ℕ). take j (drop p d)) em in
     let g : length a ≡ n = ap length f ∙ length-take-le n (drop p d) (simp length-drop (omega arith)) in
     let h : length a % 16 ≡ 0 = omega (arith, block-pieces) in
     let r = drop (p + n) d in
