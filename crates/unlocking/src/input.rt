@@ -22,13 +22,6 @@ pub struct Line {
     pub given: bool,
 }
 
-// A byte of an input, or its end.
-#[derive(Clone, Copy)]
-enum Next {
-    Byte(u8),
-    End,
-}
-
 // Room for a PC program's input, and one byte more, so that a longer one is seen to be longer.
 pub fn room() -> [u8; 65_537]
     ensures { 65537 ≡ length result }
@@ -52,40 +45,36 @@ pub fn read_file(rt: &impl Files, path: &[u8], buf: &mut [u8]) -> Input {
     }
 }
 
-// Reads one byte, so that nothing behind a line is taken.
-fn read_byte(from: &mut impl Read) -> Next {
+// Reads one byte, so that nothing behind a line is taken: none at the input's end.
+fn read_byte(from: &mut impl Read) -> Option<u8> {
     let mut b = [0u8; 1];
     if console::read_full(from, &mut b) == 1 {
-        return Next::Byte(b[0]);
+        return Some(b[0]);
     }
-    Next::End
+    None
 }
 
 // Reads a line, as much as `buf` has room for.
 pub fn read_line(from: &mut impl Read, buf: &mut [u8]) -> Line {
-    let mut at: usize = 0;
-    while at < buf.len() {
+    for (at, x) in buf.iter_mut().enumerate() {
         match read_byte(from) {
-            Next::End => {
+            None => {
                 return Line {
                     length: at,
                     given: 0 < at,
                 };
             }
-            Next::Byte(b) => {
-                if b == b'\n' {
-                    return Line {
-                        length: at,
-                        given: true,
-                    };
-                }
-                buf[at] = b;
-                at += 1;
+            Some(b'\n') => {
+                return Line {
+                    length: at,
+                    given: true,
+                };
             }
+            Some(b) => *x = b,
         }
     }
     Line {
-        length: at,
+        length: buf.len(),
         given: true,
     }
 }

@@ -27,12 +27,10 @@ fn advance(rt: &impl Eprint, t: Transformation, n: u64) -> Transformation
     ensures { result ≡ state.advances (replicate 50 n) t }
 {
     let mut x = t;
-    let mut left: usize = 50;
-    while 0 < left {
+    for _ in 0..50u32 {
         let next = x.advance(n);
         x = next;
         show(rt, x.done, x.rounds);
-        left -= 1;
     }
     x
 }

@@ -8,80 +8,61 @@ use crate::input;
 use input::Input;
 use std::rt::Files;
 
-// Whether a word stands at a place.
-fn begins(s: &[u8], at: usize, w: &[u8]) -> bool
-    ensures { result ≡ limits.begins w.now (drop at s.now) }
+// What stands behind the first place of a word: nothing where there is none.
+fn behind<'a>(s: &'a [u8], w: &[u8]) -> &'a [u8]
+    ensures { result.now ≡ limits.behind w.now s.now }
 {
-    slices::same(slices::part(s, at, w.len()), w)
+    for at in 0..s.len() {
+        if let Some(rest) = s[at..].strip_prefix(w) {
+            return rest;
+        }
+    }
+    &[]
 }
 
-// The place behind the first place of a word; the end where there is none.
-fn behind(s: &[u8], w: &[u8]) -> usize
-    ensures { drop result s.now ≡ limits.behind w.now s.now }
+// A text from its first byte on that is no space.
+fn unspaced(s: &[u8]) -> &[u8]
+    ensures { result.now ≡ limits.unspaced s.now }
 {
-    let mut at: usize = 0;
-    while at < s.len() {
-        if begins(s, at, w) {
-            return at + w.len();
+    for (at, x) in s.iter().enumerate() {
+        if *x != b' ' {
+            return &s[at..];
         }
-        at += 1;
     }
-    at
-}
-
-// The first place from `start` on that has no space.
-fn skip_spaces(s: &[u8], start: usize) -> usize
-    ensures { drop result s.now ≡ limits.unspaced (drop start s.now) }
-{
-    let mut at = start;
-    while at < s.len() {
-        if s[at] != b' ' {
-            return at;
-        }
-        at += 1;
-    }
-    at
+    &[]
 }
 
 // Whether a byte is a decimal digit.
 fn is_digit(x: u8) -> bool
     ensures { result ≡ limits.is_digit x }
 {
-    if x < b'0' {
-        return false;
-    }
-    x <= b'9'
+    matches!(x, b'0'..=b'9')
 }
 
-// Whether the number at a place is at least `least`.
-fn reaches(s: &[u8], start: usize, least: u32) -> bool
-    ensures { result ≡ leb least (limits.decimal 0 (drop start s.now)) }
+// Whether the number that a text begins with is at least `least`.
+fn reaches(s: &[u8], least: u32) -> bool
+    ensures { result ≡ leb least (limits.decimal 0 s.now) }
 {
+    let least = u64::from(least);
     let mut n: u64 = 0;
-    let mut at = start;
-    while at < s.len() {
-        if (least as u64) <= n {
+    for x in s {
+        if least <= n {
             return true;
         }
-        let x = s[at];
-        if !is_digit(x) {
+        if !is_digit(*x) {
             return false;
         }
-        n = n * 10 + ((x - b'0') as u64);
-        at += 1;
+        n = n * 10 + u64::from(*x - b'0');
     }
-    (least as u64) <= n
+    least <= n
 }
 
 // Whether a text tells that the stack may have so many bytes.
 pub fn allows(text: &[u8], bytes: u32) -> bool
     ensures { result ≡ limits.allows bytes text.now }
 {
-    let at = skip_spaces(text, behind(text, b"Max stack size"));
-    if begins(text, at, b"unlimited") {
-        return true;
-    }
-    reaches(text, at, bytes)
+    let limit = unspaced(behind(text, b"Max stack size"));
+    limit.starts_with(b"unlimited") || reaches(limit, bytes)
 }
 
 // Whether the process may use so many bytes of stack.

@@ -1,7 +1,7 @@
 -- The soft limit of the stack, as code looks for it.
 --
 -- In order:
---   begins_room                                    a word that is found lies within the text
+--   begins-pointwise, begins-starts_with           std's tests for a word at the front
 --   behind_first, behind_more, behind_none         the first place of a word; a place further; the end
 --   unspaced_stop, unspaced_more, unspaced_none    the first byte that is no space; a place further; the end
 --   digit-ge, digit-le                             a digit's byte
@@ -9,20 +9,46 @@
 --   reached, missed                                a number that is large enough before its end; one that is not
 --   allows_unlimited, allows-number                the limit
 -- Assumes nothing.
-use mathlib.Core.Path.{◌≡◌, sym, ap, ◌∙◌}
-use mathlib.Core.Bool.{Bool, true, false}
+use mathlib.Core.Path.{◌≡◌, refl, sym, ap, ◌∙◌}
+use mathlib.Core.Bool.{Bool, true, false, ◌&&◌}
 use mathlib.Core.List.{List, [], ◌∷◌}
 use Prim.Native.Nat.{ℕ, suc, ◌+◌, ◌-◌, ◌*◌, ◌≤◌, ◌<◌}
 use native.Mathlib.Numerals.{add-one}
 use native.Mathlib.Omega.{arith}
 use lib.Dec.{eqb, leb}
-use lib.ListN.{length, get_or, take, drop, length-take, length-drop, drop_of_length-le}
-use lib.Seq.{drop-cons, drop-drop}
-use borrow.Author.Tests.{leb-true, le-leb, lt-leb, eq-eqb, ne_eqb}
+use lib.ListN.{length, get_or, take, drop, length-drop, drop_of_length-le}
+use lib.Pointwise.{pointwise}
+use lib.Seq.{drop-cons}
+use borrow.Author.Tests.{leb-true, le-leb, lt-leb, eq-eqb, ne_eqb, eqb-true, eqb-false}
 use Rattle.words.proofs.Laws.Cases.{by_bool, and_true}
-use Rattle.slices.proofs.Laws.Same.{same_true}
+use Rattle.slices.specs.Same.{same}
 use Rattle.explanations.specs.Sentences.{ascii}
 use Rattle.unlocking.specs.Stack.{begins, behind, unspaced, is_digit, decimal, limit, allows}
+
+eqb_sym : (x y : ℕ) → eqb x y ≡ eqb y x
+eqb_sym x y =
+    by_bool (eqb x y)
+    (λ t. let h = eqb-true x y t in rw (t, eq-eqb y x (sym h)))
+    (λ f. let h = eqb-false x y f in rw (f, ne_eqb y x (λ e. h (sym e))))
+
+pointwise-same : (s t : List ℕ) → pointwise eqb s t ≡ same s t
+unfolding same
+pointwise-same [] [] = refl
+pointwise-same [] (y ∷ t) = refl
+pointwise-same (x ∷ s) [] = refl
+pointwise-same (x ∷ s) (y ∷ t) = ap (λ (b : Bool). eqb x y && b) (pointwise-same s t)
+
+pointwise_sym : (s t : List ℕ) → pointwise eqb s t ≡ pointwise eqb t s
+pointwise_sym [] [] = refl
+pointwise_sym [] (y ∷ t) = refl
+pointwise_sym (x ∷ s) [] = refl
+pointwise_sym (x ∷ s) (y ∷ t) = rw (eqb_sym x y, pointwise_sym s t)
+
+pub begins-pointwise : (w s : List ℕ) → begins w s ≡ pointwise eqb (take (length w) s) w
+begins-pointwise w s = sym (pointwise-same (take (length w) s) w)
+
+pub begins-starts_with : (w s : List ℕ) → begins w s ≡ pointwise eqb w (take (length w) s)
+begins-starts_with w s = begins-pointwise w s ∙ pointwise_sym (take (length w) s) w
 
 behind_here : (w s : List ℕ) → 0 < length s → begins w s ≡ true → behind w s ≡ drop (length w) s
 unfolding behind
@@ -34,21 +60,19 @@ unfolding behind
 behind_next w s x t = rw t
 
 module _ (w s : List ℕ) (at : ℕ) where
-  pub begins_room : at < length s → begins w (drop at s) ≡ true → at + length w ≤ length s
-  begins_room h t =
-      let e : length (take (length w) (drop at s)) ≡ length w = ap length (same_true _ w t) in
-      omega (arith, simp (length-take, length-drop) at e)
-
-  pub behind_first : at < length s → begins w (drop at s) ≡ true → drop (at + length w) s ≡ behind w (drop at s)
+  pub behind_first : at < length s → pointwise eqb (take (length w) (drop at s)) w ≡ true
+      → drop (length w) (drop at s) ≡ behind w (drop at s)
   behind_first h t =
-      sym (behind_here w (drop at s) (simp length-drop (omega arith)) t ∙ drop-drop (length w) at s)
+      sym (behind_here w (drop at s) (simp length-drop (omega arith)) (begins-pointwise w (drop at s) ∙ t))
 
-  pub behind_more : at < length s → begins w (drop at s) ≡ false → behind w (drop (at + 1) s) ≡ behind w (drop at s)
+  pub behind_more : at < length s → pointwise eqb (take (length w) (drop at s)) w ≡ false
+      → behind w (drop (at + 1) s) ≡ behind w (drop at s)
   behind_more h t =
       let e = drop-cons s at 0 h in
-      rw add-one (sym (ap (λ (x : List ℕ). behind w x) e ∙ behind_next w (drop (suc at) s) (get_or s at 0) (rw e at t)))
+      let b : begins w (drop at s) ≡ false = begins-pointwise w (drop at s) ∙ t in
+      rw add-one (sym (ap (λ (x : List ℕ). behind w x) e ∙ behind_next w (drop (suc at) s) (get_or s at 0) (rw e at b)))
 
-  pub behind_none : length s ≤ at → drop at s ≡ behind w (drop at s)
+  pub behind_none : length s ≤ at → [] ≡ behind w (drop at s)
   unfolding behind
   behind_none h = rw (drop_of_length-le s h)
 
@@ -61,7 +85,7 @@ module _ (s : List ℕ) (at : ℕ) where
   unfolding unspaced
   unspaced_more h n = rw (add-one, drop-cons s at 0 h, eq-eqb (get_or s at 0) 0x20 n)
 
-  pub unspaced_none : length s ≤ at → drop at s ≡ unspaced (drop at s)
+  pub unspaced_none : length s ≤ at → [] ≡ unspaced (drop at s)
   unfolding unspaced
   unspaced_none h = rw (drop_of_length-le s h)
 
@@ -100,16 +124,20 @@ reached least n m s h e = sym (le-leb least m (omega (arith, decimal-ge s n)))
 pub missed : (least n m : ℕ) → n < least → n ≡ m → false ≡ leb least m
 missed least n m h e = sym (lt-leb least m (omega arith))
 
-module _ (n : ℕ) (s : List ℕ) (b at : ℕ) (word : drop b s ≡ behind (ascii "Max stack size") s)
-    (spaces : drop at s ≡ unspaced (drop b s)) where
-  limit_at : drop at s ≡ limit s
-  limit_at = spaces ∙ ap unspaced word
+module _ (n : ℕ) (s b t : List ℕ) (word : b ≡ behind (ascii "Max stack size") s) (spaces : t ≡ unspaced b) where
+  limit_is : t ≡ limit s
+  limit_is = spaces ∙ ap unspaced word
 
-  pub allows_unlimited : (r : Bool) → r ≡ begins (ascii "unlimited") (drop at s) → r ≡ true → true ≡ allows n s
+  pub allows_unlimited : (r : Bool) → r ≡ pointwise eqb (ascii "unlimited") (take (length (ascii "unlimited")) t)
+      → r ≡ true → r ≡ allows n s
   unfolding allows
-  allows_unlimited r e t = rw (← limit_at, ← e, t)
+  allows_unlimited r e t' =
+      let f : begins (ascii "unlimited") t ≡ true = begins-starts_with (ascii "unlimited") t ∙ sym e ∙ t' in
+      rw (t', ← limit_is, f)
 
-  pub allows-number : (r u : Bool) → r ≡ begins (ascii "unlimited") (drop at s) → r ≡ false
-      → u ≡ leb n (decimal 0 (drop at s)) → u ≡ allows n s
+  pub allows-number : (r u : Bool) → r ≡ pointwise eqb (ascii "unlimited") (take (length (ascii "unlimited")) t)
+      → r ≡ false → u ≡ leb n (decimal 0 t) → u ≡ allows n s
   unfolding allows
-  allows-number r u e t g = rw (← limit_at, ← e, t) g
+  allows-number r u e t' g =
+      let f : begins (ascii "unlimited") t ≡ false = begins-starts_with (ascii "unlimited") t ∙ sym e ∙ t' in
+      rw (← limit_is, f) g

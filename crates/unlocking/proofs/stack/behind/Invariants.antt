@@ -1,13 +1,9 @@
 -- `unlocking::stack::behind` meets its contract. The invariant: what is left of the text has the same behind the word's
 -- first place. Assumes nothing.
 use mathlib.Core.Path.{◌≡◌}
-use Prim.Native.Nat.{◌-◌}
-use lib.ListN.{length, drop}
+use lib.ListN.{drop}
 use Rattle.unlocking.specs.Stack as limits
 use Rattle.unlocking.proofs.stack.behind.Given as goal
 
 abbrev pub invariant-loop-at : goal.invariant-loop-at
 invariant-loop-at l = limits.behind l.w (drop l.at l.s) ≡ limits.behind l.w l.s
-
-abbrev pub decreases-loop-at : goal.decreases-loop-at
-decreases-loop-at l = length l.s - l.at

@@ -9,35 +9,27 @@ use Rattle.unlocking.proofs.Laws.Stack.{digit-ge, digit-le, decimal_stop, decima
 use borrow.Author.Rules.{rules}
 use Rattle.unlocking.proofs.stack.reaches.Goals as goal
 
-pub loop-at-init : goal.loop-at-init
-loop-at-init c = refl
+pub loop-x-init : goal.loop-x-init
+loop-x-init c = refl
 
 pub returns-then-least-n : goal.returns-then-least-n
 returns-then-least-n c =
     let a = c.args in
-    reached a.least c.loop-at.n _ (drop c.loop-at.at a.s.now) (search rules) c.loop-at.invariant
+    reached a.least c.loop-x.n _ (drop c.loop-x.x-index a.s.now) (search rules) c.loop-x.invariant
 
 pub returns-then-not-is_digit : goal.returns-then-not-is_digit
 returns-then-not-is_digit c =
     let a = c.args in
-    missed a.least c.loop-at.n _ (search rules)
-    (decimal_stop a.s.now c.loop-at.at c.loop-at.n (search rules)
+    missed a.least c.loop-x.n _ (search rules)
+    (decimal_stop a.s.now c.loop-x.x-index c.loop-x.n (search rules)
     (sym c.is_digit.ensures ∙ c.if-not-is_digit.true)
-    ∙ c.loop-at.invariant)
+    ∙ c.loop-x.invariant)
 
-pub overflow_sub-n : goal.overflow_sub-n
-overflow_sub-n c =
+pub overflow_sub-x : goal.overflow_sub-x
+overflow_sub-x c =
     omega (
       arith,
-      digit-ge (get_or c.args.s.now c.loop-at.at 0)
-          (sym c.is_digit.ensures ∙ c.if-not-is_digit.false),
-    )
-
-pub overflow_cast-n : goal.overflow_cast-n
-overflow_cast-n c =
-    omega (
-      arith,
-      digit-le (get_or c.args.s.now c.loop-at.at 0)
+      digit-ge (get_or c.args.s.now c.loop-x.x-index 0)
           (sym c.is_digit.ensures ∙ c.if-not-is_digit.false),
     )
 
@@ -45,19 +37,21 @@ pub overflow_add-n : goal.overflow_add-n
 overflow_add-n c =
     omega (
       arith,
-      digit-le (get_or c.args.s.now c.loop-at.at 0)
+      digit-le (get_or c.args.s.now c.loop-x.x-index 0)
           (sym c.is_digit.ensures ∙ c.if-not-is_digit.false),
+      c.from.ensures,
     )
 
-pub loop-at-preserved : goal.loop-at-preserved
-loop-at-preserved c =
+pub loop-x-preserved : goal.loop-x-preserved
+loop-x-preserved c =
     let a = c.args in
-    decimal_more a.s.now c.loop-at.at c.loop-at.n (search rules)
-    (sym c.is_digit.ensures ∙ c.if-not-is_digit.false)
-    ∙ c.loop-at.invariant
+    rw c.from.ensures
+    (decimal_more a.s.now c.loop-x.x-index c.loop-x.n (search rules) (sym c.is_digit.ensures ∙ c.if-not-is_digit.false)
+    ∙ c.loop-x.invariant)
 
 pub returns : goal.returns
 returns c =
     let a = c.args in
-    ap (λ (x : ℕ). leb a.least x)
-    (decimal_none a.s.now c.loop-at.at c.loop-at.n (search rules) ∙ c.loop-at.invariant)
+    rw c.from-least.ensures
+    (ap (λ (x : ℕ). leb a.least x)
+    (decimal_none a.s.now c.loop-x.x-index c.loop-x.n (search rules) ∙ c.loop-x.invariant))
