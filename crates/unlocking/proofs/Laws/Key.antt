@@ -15,14 +15,14 @@ use mathlib.Core.List.{List}
 use Prim.Native.Nat.{ℕ, zero, suc, ◌+◌, ◌-◌, ◌/◌, ◌≤◌, ◌<◌}
 use native.Mathlib.Numerals.{sub-one}
 use native.Mathlib.Omega.{arith}
-use lib.ListN.{length, take, drop, replicate, length-drop}
+use lib.ListN.{length, drop, replicate, length-drop}
 use lib.Seq.{length-take-le}
 use Rattle.refusals.specs.declared.Refusal.{Refusal}
 use Rattle.refusals.specs.declared.Outcome.TheVariants as outcome
 use Rattle.refusals.specs.Limits.{rounds_limit}
 use Rattle.fields.specs.Fields.{bytes_at, end_of}
 use Rattle.fields.specs.declared.Place.{Place}
-use Rattle.aes_kdf.specs.AesKdf.{transformed_key, done_by}
+use Rattle.aes_kdf.specs.AesKdf.{transformed_key}
 use Rattle.aes_kdf.specs.State.{started, advanced, advances, finished}
 use Rattle.aes_kdf.specs.declared.Transformation.{Transformation}
 use Rattle.aes_kdf.specs.declared.Transformed.{Transformed as Finished}

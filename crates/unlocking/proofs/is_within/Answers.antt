@@ -1,6 +1,5 @@
 -- `unlocking::is_within` meets its contract. Assumes nothing.
 use mathlib.Core.Path.{◌∙◌}
-use mathlib.Core.Bool.{true}
 use Rattle.keys.proofs.Laws.{not-not}
 use Rattle.unlocking.proofs.is_within.Goals as goal
 
