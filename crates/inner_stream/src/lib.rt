@@ -59,10 +59,7 @@ pub struct Applied {
 fn is_listed(algorithm: u32) -> bool
     ensures { result ≡ inner.listed algorithm }
 {
-    if algorithm == 2 {
-        return true;
-    }
-    algorithm == 3
+    matches!(algorithm, 2 | 3)
 }
 
 // Whether there is a cipher.
@@ -81,7 +78,7 @@ fn chacha20_key(h: [u8; 64]) -> [u8; 32]
     ensures { result ≡ take 32 h }
 {
     let mut key = [0u8; 32];
-    slices::copy(&mut key, &h);
+    key.copy_from_slice(&h[..32]);
     key
 }
 
@@ -90,7 +87,7 @@ fn chacha20_nonce(h: [u8; 64]) -> [u8; 12]
     ensures { result ≡ take 12 (drop 32 h) }
 {
     let mut nonce = [0u8; 12];
-    slices::copy(&mut nonce, slices::part(&h, 32, 12));
+    nonce.copy_from_slice(&h[32..44]);
     nonce
 }
 
