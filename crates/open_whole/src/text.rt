@@ -28,13 +28,14 @@ pub fn copy_text(f: &[u8], p: usize, skip: usize, out: &mut [u8])
     let mut at = p;
     let mut left = skip;
     let mut done: usize = 0;
+    // A `while`: only their sizes tell how many blocks there are, so a `for` of turns would be no plainer.
     while done < out.len() {
         let n = block_size(f, at);
         if n == 0 {
             return;
         }
-        let s = slices::least(left, n);
-        let m = slices::least(out.len() - done, n - s);
+        let s = left.min(n);
+        let m = (out.len() - done).min(n - s);
         let start = at + 36 + s;
         let end = at + 36 + n;
         slices::copy(&mut out[done..], &f[start..end]);

@@ -26,30 +26,30 @@ returns-then-n-eq0 c =
     filling_end t (drop l.left (text a.f.now l.at)) a.out.now l.out l.done l.invariant
     (ap (drop l.left) e ∙ drop-nil l.left)
 
-least_l : (s a b : ℕ) → s ≡ min a b → s ≤ a
-least_l s a b e = omega arith
+min_l : (s a b : ℕ) → s ≡ min a b → s ≤ a
+min_l s a b e = omega arith
 
-least_r : (s a b : ℕ) → s ≡ min a b → s ≤ b
-least_r s a b e = omega arith
+min_r : (s a b : ℕ) → s ≡ min a b → s ≤ b
+min_r s a b e = omega arith
 
 pub overflow_sub-n : goal.overflow_sub-n
-overflow_sub-n c = least_r _ _ _ c.least-s.ensures
+overflow_sub-n c = min_r _ _ _ c.min-s.ensures
 
 pub overflow_add-start-in-loop-done : goal.overflow_add-start-in-loop-done
 overflow_add-start-in-loop-done c =
     let there =
     block_within c.args.f.now c.loop-done.at c.block_size-n.result c.block_size-n.ensures c.if-n-eq0.false in
-    omega (arith, there, least_r _ _ _ c.least-s.ensures)
+    omega (arith, there, min_r _ _ _ c.min-s.ensures)
 
 pub slice_bounds-copy-start-in-loop-done : goal.slice_bounds-copy-start-in-loop-done
-slice_bounds-copy-start-in-loop-done c = omega (arith, least_r _ _ _ c.least-s.ensures)
+slice_bounds-copy-start-in-loop-done c = omega (arith, min_r _ _ _ c.min-s.ensures)
 
 pub overflow_add-done : goal.overflow_add-done
 overflow_add-done c =
-    omega (arith, least_l _ _ _ c.least-m.ensures)
+    omega (arith, min_l _ _ _ c.min-m.ensures)
 
 pub overflow_sub-left : goal.overflow_sub-left
-overflow_sub-left c = least_l _ _ _ c.least-s.ensures
+overflow_sub-left c = min_l _ _ _ c.min-s.ensures
 
 pub loop-done-smaller : goal.loop-done-smaller
 loop-done-smaller c =
@@ -72,18 +72,18 @@ loop-done-preserved c =
     let a = c.args in
     let f = a.f.now in
     let n = c.block_size-n.result in
-    let s = c.least-s.result in
+    let s = c.min-s.result in
     let t = drop a.skip (text f a.p) in
     let b = take (l.at + 36 + n - (l.at + 36 + s)) (drop (l.at + 36 + s) f) in
-    let e : c.least-m.result ≡ min (length l.out - l.done) (length b) =
-    c.least-m.ensures
+    let e : c.min-m.result ≡ min (length l.out - l.done) (length b) =
+    c.min-m.ensures
     ∙ ap (min (length l.out - l.done))
-    (sym (length_part f l.at n s there (least_r _ _ _ c.least-s.ensures))) in
+    (sym (length_part f l.at n s there (min_r _ _ _ c.min-s.ensures))) in
     filling_more t (drop l.left (text f l.at)) a.out.now l.out l.done l.invariant
     b (drop (l.left - s) (text f (l.at + 36 + n))) c.copy.new.out (length l.out - l.done)
-    c.least-m.result
+    c.min-m.result
     (text_skip f l.at n l.left s c.block_size-n.ensures c.if-n-eq0.false
-    c.least-s.ensures)
+    c.min-s.ensures)
     refl c.copy.ensures e
 
 pub returns : goal.returns
