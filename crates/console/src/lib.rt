@@ -26,6 +26,7 @@ pub fn read_full<R: Read>(from: &mut R, buf: &mut [u8]) -> usize
     ensures { result ≤ length buf.new }
 {
     let mut done: usize = 0;
+    // A `while`: std has no read as far as the input goes, and a `for` of turns would read behind the last byte.
     while done < buf.len() {
         let n = read_some(from, &mut buf[done..]);
         if n == 0 {

@@ -8,12 +8,11 @@
 // blocks, and 17 last.
 #![tactic(auto)]
 
-ghost use Rattle.std.specs.Prelude.{◌≡◌, ◌+◌, ◌≤◌, length};
+ghost use Rattle.std.specs.Prelude.{◌≡◌, ◌++◌, ◌+◌, ◌-◌, ◌≤◌, length, replicate};
 ghost use Rattle.refusals.specs.Limits.{file_limit};
 ghost use Rattle.slices.specs.Over.{over};
 ghost use Rattle.outer_header.specs.Kdbx4Header.{header};
 ghost use Rattle.outer_header.specs.declared.Reading.TheVariants as read;
-ghost use Rattle.opening.specs.Steps as steps;
 ghost use Rattle.opening.specs.Whole as whole;
 ghost use Rattle.vault.specs.Vault as kdbx4;
 ghost use Rattle.vault.specs.Checked as checked;
@@ -33,23 +32,13 @@ struct Checked {
     pub at: usize,
 }
 
-// The bytes of a slice in an array of sixteen, with zeros behind them.
-fn array16(s: &[u8]) -> [u8; 16]
-    requires { length s.now ≤ 16 }
-    ensures { result ≡ steps.padded s.now }
+// The bytes of a slice in an array of N, with zeros behind them.
+fn padded<const N: usize>(s: &[u8]) -> [u8; N]
+    requires { length s.now ≤ N }
+    ensures { result ≡ s.now ++ replicate (N - length s.now) 0 }
 {
-    let mut a = [0u8; 16];
-    slices::copy(&mut a, s);
-    a
-}
-
-// The bytes of a slice of 32.
-fn array32(s: &[u8]) -> [u8; 32]
-    requires { length s.now ≡ 32 }
-    ensures { result ≡ s.now }
-{
-    let mut a = [0u8; 32];
-    slices::copy(&mut a, s);
+    let mut a = [0u8; N];
+    a[..s.len()].copy_from_slice(s);
     a
 }
 
@@ -58,8 +47,8 @@ fn keys_of(f: &[u8], h: Header, t: [u8; 32]) -> Keys
     requires { header f.now ≡ read.Header h }
     ensures { result ≡ kdbx4.keys_of t f.now h }
 {
-    let seed = array32(slices::part(f, h.seed.start, h.seed.length));
-    let nonce = array16(slices::part(f, h.nonce.start, h.nonce.length));
+    let seed = padded(slices::part(f, h.seed.start, h.seed.length));
+    let nonce = padded(slices::part(f, h.nonce.start, h.nonce.length));
     let c = h.cipher;
     vault_keys::keys_with(c, seed, nonce, t)
 }
