@@ -3,8 +3,37 @@
 // A field is text as it stands, a number in decimal, or bytes: `=` and their lower-case hexadecimal digits, or `-`
 // where they are absent, so that no bytes and absent bytes differ.
 ghost use Rattle.std.specs.Prelude.{◌≤◌, ◌<◌, min, length};
+ghost use Rattle.std.specs.Iterator.{at_most};
 
 use crate::least;
+
+// The lines of a table from the first on, each without its end, which the last need not have.
+#[derive(Drop)]
+pub struct Lines<'a> {
+    rest: &'a [u8],
+}
+
+impl<'a> Lines<'a> {
+    pub fn of(table: &'a [u8]) -> Lines<'a> {
+        Lines { rest: table }
+    }
+}
+
+impl<'a> Iterator for Lines<'a> {
+    type Item = &'a [u8];
+
+    ghost remaining = { λ lines. at_most (length lines.rest.now) };
+
+    fn next(&mut self) -> Option<&'a [u8]> {
+        if self.rest.is_empty() {
+            return None;
+        }
+        let end = find(self.rest, 0, b'\n');
+        let line = &self.rest[..end];
+        self.rest = crate::after(self.rest, end + 1);
+        Some(line)
+    }
+}
 
 // The place of the first `b` in `s` at `from` or behind, or the length of `s` where there is none.
 pub fn find(s: &[u8], from: usize, b: u8) -> usize
