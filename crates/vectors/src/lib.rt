@@ -3,24 +3,25 @@
 // A row is `name form length number digits`: which operation, in which form, the length of the message that the result
 // is of, the number that was answered (0 is success), and the result in hexadecimal. A program's stored stdout is made
 // by tools/PROGRAM.py, which has the same rules and computes each result with an independent implementation. A program
-// whose cases are data has them in its stored stdin, which the same script writes; `table` reads them. Of what is
-// filled and printed nothing is promised but that each function is safe and ends: the output is compared.
+// whose cases are data has them in its stored stdin, which the same script writes; `table` reads them. `parts` cuts a
+// message, and `digest` has the rows of what is fed in parts. Of what is filled and printed nothing is promised but
+// that each function is safe and ends: the output is compared.
 #![tactic(auto)]
 
 ghost use Rattle.std.specs.Prelude.{◌≡◌, ◌<◌, min, length, take, drop};
 
 use std::io;
 
+pub mod digest;
+pub mod parts;
 pub mod table;
 
 // Fills `out` by rule: byte i is (37 i + 11) mod 251. 251 is prime, so no two blocks near each other are the same.
 pub fn pattern(out: &mut [u8]) {
     let mut x: u8 = 11;
-    let mut i: usize = 0;
-    while i < out.len() {
-        out[i] = x;
+    for byte in out {
+        *byte = x;
         x = next(x);
-        i += 1;
     }
 }
 
@@ -33,11 +34,9 @@ fn next(x: u8) -> u8 {
 // 1664525 x + 1013904223 mod 2^32 for each byte, which is the upper eight bits of x.
 pub fn random(state: u64, out: &mut [u8]) -> u64 {
     let mut x = state;
-    let mut i: usize = 0;
-    while i < out.len() {
+    for byte in out {
         x = random_next(x);
-        out[i] = (x / 0x100_0000) as u8;
-        i += 1;
+        *byte = (x >> 24) as u8;
     }
     x
 }
@@ -60,27 +59,21 @@ pub fn million(b: u8) -> [u8; 1_000_000]
 pub fn first(m: &[u8], n: usize) -> &[u8]
     ensures { result.now ≡ take n m.now }
 {
-    if n < m.len() {
-        return &m[..n];
-    }
-    m
+    m.get(..n).unwrap_or(m)
 }
 
 // The bytes of `m` from `at` on.
 pub fn after(m: &[u8], at: usize) -> &[u8]
     ensures { result.now ≡ drop at m.now }
 {
-    if at < m.len() {
-        return &m[at..];
-    }
-    &m[..0]
+    m.get(at..).unwrap_or(&[])
 }
 
 // The lesser of two numbers.
 pub fn least(a: usize, b: usize) -> usize
     ensures { result ≡ min a b }
 {
-    if a < b { a } else { b }
+    a.min(b)
 }
 
 // The length of the part after one of `size` bytes: twice as many and one more, or 1 again where `size` is `longest` or
@@ -88,8 +81,11 @@ pub fn least(a: usize, b: usize) -> usize
 pub fn next_size(size: usize, longest: u8) -> usize
     ensures { 0 < result }
 {
-    let most = longest as usize;
-    if size < most { 2 * size + 1 } else { 1 }
+    if size < usize::from(longest) {
+        2 * size + 1
+    } else {
+        1
+    }
 }
 
 // A row of the output.
@@ -112,13 +108,7 @@ pub fn row(
 // Bytes in lower-case hexadecimal.
 fn digits(rt: &impl Print, bytes: &[u8]) -> io::Result<()> {
     for b in bytes {
-        let n = wide(*b);
-        print!(rt; "{n:02x}")?;
+        print!(rt; "{b:02x}")?;
     }
     Ok(())
-}
-
-// A byte as a number that prints.
-fn wide(b: u8) -> u64 {
-    b as u64
 }

@@ -5,7 +5,7 @@
 ghost use Rattle.std.specs.Prelude.{◌≤◌, ◌<◌, min, length};
 ghost use Rattle.std.specs.Iterator.{at_most};
 
-use crate::least;
+use crate::after;
 
 // The lines of a table from the first on, each without its end, which the last need not have.
 #[derive(Drop)]
@@ -28,9 +28,8 @@ impl<'a> Iterator for Lines<'a> {
         if self.rest.is_empty() {
             return None;
         }
-        let end = find(self.rest, 0, b'\n');
-        let line = &self.rest[..end];
-        self.rest = crate::after(self.rest, end + 1);
+        let line = self.rest.split(|b| *b == b'\n').next()?;
+        self.rest = after(self.rest, line.len() + 1);
         Some(line)
     }
 }
@@ -40,47 +39,28 @@ pub fn find(s: &[u8], from: usize, b: u8) -> usize
     ensures upper_bound { result ≤ length s.now }
     ensures lower_bound { min from (length s.now) ≤ result }
 {
-    let mut i = from;
-    while i < s.len() {
-        if s[i] == b {
-            return i;
-        }
-        i += 1;
-    }
-    s.len()
+    after(s, from)
+        .iter()
+        .position(|x| *x == b)
+        .map_or(s.len(), |i| from + i)
 }
 
 // Field k of a line, empty where the line has fewer.
 pub fn field(line: &[u8], k: usize) -> &[u8] {
-    let mut at: usize = 0;
-    let mut i: usize = 0;
-    while i < k {
-        let end = find(line, at, b' ');
-        at = least(end + 1, line.len());
-        i += 1;
-    }
-    let end = find(line, at, b' ');
-    &line[at..end]
+    line.split(|b| *b == b' ').nth(k).unwrap_or(&[])
 }
 
 // Whether a field's bytes are not absent.
 pub fn is_given(field: &[u8]) -> bool {
-    if field.len() == 0 {
-        return false;
-    }
-    field[0] == b'='
+    field.starts_with(b"=")
 }
 
 // A field's bytes, as many as `out` has room for, and how many they are.
 pub fn bytes(field: &[u8], out: &mut [u8]) -> usize {
-    if field.len() == 0 {
-        return 0;
-    }
-    let n = least((field.len() - 1) / 2, out.len());
-    let mut i: usize = 0;
-    while i < n {
-        out[i] = 16 * digit(field[2 * i + 1]) + digit(field[2 * i + 2]);
-        i += 1;
+    let digits = after(field, 1).chunks_exact(2);
+    let n = out.len().min(digits.len());
+    for (byte, pair) in out.iter_mut().zip(digits) {
+        *byte = 16 * digit(pair[0]) + digit(pair[1]);
     }
     n
 }
@@ -94,38 +74,18 @@ pub fn array(field: &[u8]) -> [u8; 32] {
 
 // A field's number, of at most 18 digits.
 pub fn number(field: &[u8]) -> u64 {
-    let mut x: u64 = 0;
-    let mut i: usize = 0;
-    while i < field.len() {
-        x = x % 100_000_000_000_000_000 * 10 + wide(digit(field[i]));
-        i += 1;
-    }
-    x
+    field.iter().fold(0, |x, b| {
+        x % 100_000_000_000_000_000 * 10 + u64::from(digit(*b))
+    })
 }
 
 // The value of a digit, 0 for any other byte.
 fn digit(b: u8) -> u8
     ensures { result < 16 }
 {
-    if b < b'0' {
-        return 0;
+    match b {
+        b'0'..=b'9' => b - b'0',
+        b'a'..=b'f' => b - b'a' + 10,
+        _ => 0,
     }
-    if b <= b'9' {
-        return b - b'0';
-    }
-    if b < b'a' {
-        return 0;
-    }
-    if b <= b'f' {
-        return b - b'a' + 10;
-    }
-    0
-}
-
-// A digit's value as a number.
-fn wide(b: u8) -> u64
-    requires { b < 16 }
-    ensures { result < 16 }
-{
-    b as u64
 }
