@@ -62,6 +62,12 @@ pub fn first(m: &[u8], n: usize) -> &[u8]
     m.get(..n).unwrap_or(m)
 }
 
+// The same, to be written.
+pub fn first_mut(m: &mut [u8], n: usize) -> &mut [u8] {
+    let end = n.min(m.len());
+    &mut m[..end]
+}
+
 // The bytes of `m` from `at` on.
 pub fn after(m: &[u8], at: usize) -> &[u8]
     ensures { result.now ≡ drop at m.now }

@@ -1,18 +1,44 @@
 // The rows of BLAKE2b.
-ghost use Rattle.std.specs.Prelude.{◌<◌};
-
-use blake2b::{Blake2b, Fed};
+use blake2b::Blake2b;
 use std::io;
+use std::ops::Range;
+use vectors::digest::{Digest, at_limit, in_parts};
+use vectors::first;
+
+// The state of BLAKE2b, with a digest of 64 bytes.
+#[derive(Drop)]
+struct Blake2bRows(Blake2b);
+
+impl Blake2bRows {
+    fn start() -> Self {
+        Blake2bRows(Blake2b::start(64))
+    }
+}
+
+impl Digest for Blake2bRows {
+    fn feed(&mut self, part: &[u8]) -> u8 {
+        let f = self.0.feed(part);
+        let o = f.outcome;
+        let next = f.next;
+        self.0 = next;
+        o.number()
+    }
+
+    fn row(&self, rt: &impl Print, form: &[u8], length: usize, number: u8) -> io::Result<()> {
+        let d = self.0.finish();
+        vectors::row(rt, b"blake2b", form, length, number, &d)
+    }
+}
 
 // All of them; the messages by rule are the first bytes of `m`.
 pub fn rows(rt: &impl Print, m: &[u8]) -> io::Result<()> {
     example(rt)?;
-    lengths(rt, m, 0, 301)?;
-    lengths(rt, m, 4_090, 4_103)?;
-    digests(rt, vectors::first(m, 3))?;
-    digests(rt, vectors::first(m, 128))?;
-    digests(rt, vectors::first(m, 200))?;
-    limit(rt, m)
+    lengths(rt, m, 0..301)?;
+    lengths(rt, m, 4_090..4_103)?;
+    digests(rt, first(m, 3))?;
+    digests(rt, first(m, 128))?;
+    digests(rt, first(m, 200))?;
+    at_limit(rt, &mut Blake2bRows::start(), m)
 }
 
 // RFC 7693, appendix A.
@@ -20,12 +46,10 @@ fn example(rt: &impl Print) -> io::Result<()> {
     whole(rt, b"abc", b"abc", 64)
 }
 
-// The lengths from `least` on and below `end`, each in three forms.
-fn lengths(rt: &impl Print, m: &[u8], least: usize, end: usize) -> io::Result<()> {
-    let mut n = least;
-    while n < end {
-        forms(rt, vectors::first(m, n))?;
-        n += 1;
+// The messages of these lengths, each in three forms.
+fn lengths(rt: &impl Print, m: &[u8], lengths: Range<usize>) -> io::Result<()> {
+    for n in lengths {
+        forms(rt, first(m, n))?;
     }
     Ok(())
 }
@@ -33,16 +57,21 @@ fn lengths(rt: &impl Print, m: &[u8], least: usize, end: usize) -> io::Result<()
 // A message in three forms.
 fn forms(rt: &impl Print, m: &[u8]) -> io::Result<()> {
     whole(rt, b"whole", m, 64)?;
-    parts(rt, b"bytes", m, 1, 1)?;
-    parts(rt, b"parts", m, m.len() % 7 + 1, 255)
+    in_parts(rt, &mut Blake2bRows::start(), b"bytes", m, 1, 1)?;
+    in_parts(
+        rt,
+        &mut Blake2bRows::start(),
+        b"parts",
+        m,
+        m.len() % 7 + 1,
+        255,
+    )
 }
 
 // A digest of each length.
 fn digests(rt: &impl Print, m: &[u8]) -> io::Result<()> {
-    let mut nn: u8 = 1;
-    while nn < 65 {
+    for nn in 1..=64 {
         whole(rt, b"digest", m, nn)?;
-        nn += 1;
     }
     Ok(())
 }
@@ -59,68 +88,6 @@ fn whole(rt: &impl Print, form: &[u8], m: &[u8], nn: u8) -> io::Result<()> {
         form,
         m.len(),
         o.number(),
-        vectors::first(&d, nn as usize),
+        first(&d, usize::from(nn)),
     )
-}
-
-// A message in parts, the first of `first` bytes, the next by the rule of `next_size`; the last is what is left. The number
-// is the last feed's.
-fn parts(rt: &impl Print, form: &[u8], m: &[u8], first: usize, longest: u8) -> io::Result<()>
-    requires { 0 < first }
-{
-    let mut h = Blake2b::start(64);
-    let mut number: u8 = 0;
-    let mut size = first;
-    let mut at: usize = 0;
-    while at < m.len() {
-        let end = at + vectors::least(size, m.len() - at);
-        let f = fed(h, &m[at..end]);
-        let o = f.outcome;
-        let next = f.next;
-        h = next;
-        number = o.number();
-        size = vectors::next_size(size, longest);
-        at = end;
-    }
-    let d = h.finish();
-    vectors::row(rt, b"blake2b", form, m.len(), number, &d)
-}
-
-// An empty feed, and a feed of `s`.
-fn fed(h: Blake2b, s: &[u8]) -> Fed {
-    h.feed(&s[..0]).next.feed(s)
-}
-
-// The limit of a message: 511 parts of 65,536 bytes; one byte more than the rest, the rest, one byte, and none.
-fn limit(rt: &impl Print, m: &[u8]) -> io::Result<()> {
-    let part = vectors::first(m, 65_536);
-    let most = refusals::limits::MESSAGE_LIMIT;
-    let h = filled(part);
-    let a = tried(rt, b"over", most - 65_536, h, vectors::first(m, 65_537))?;
-    let b = tried(rt, b"limit", most, a, part)?;
-    let c = tried(rt, b"past", most, b, vectors::first(m, 1))?;
-    tried(rt, b"empty", most, c, vectors::first(m, 0))?;
-    Ok(())
-}
-
-// The state after 511 feeds of `part`.
-fn filled(part: &[u8]) -> Blake2b {
-    let mut h = Blake2b::start(64);
-    let mut i: usize = 0;
-    while i < 511 {
-        let next = h.feed(part).next;
-        h = next;
-        i += 1;
-    }
-    h
-}
-
-// The number that a feed of `s` answers, and the digest that the state then has, which is of `length` bytes.
-fn tried(rt: &impl Print, form: &[u8], length: usize, h: Blake2b, s: &[u8]) -> io::Result<Blake2b> {
-    let f = h.feed(s);
-    let o = f.outcome;
-    let next = f.next;
-    let d = next.finish();
-    vectors::row(rt, b"blake2b", form, length, o.number(), &d)?;
-    Ok(next)
 }

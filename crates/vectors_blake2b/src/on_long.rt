@@ -1,48 +1,38 @@
 // The rows of Argon2's H'.
-ghost use Rattle.std.specs.Prelude.{◌≤◌};
-
 use std::io;
+use std::ops::Range;
+use vectors::{first, first_mut};
 
 // All of them; the messages are the first bytes of `m`.
 pub fn rows(rt: &impl Print, m: &[u8]) -> io::Result<()> {
-    let seed = vectors::first(m, 72);
-    lengths(rt, seed, 0, 201)?;
-    lengths(rt, seed, 990, 1_025)?;
-    chosen(rt, vectors::first(m, 0))?;
+    let seed = first(m, 72);
+    lengths(rt, seed, 0..201)?;
+    lengths(rt, seed, 990..1_025)?;
+    chosen(rt, first(m, 0))?;
     chosen(rt, seed)?;
-    chosen(rt, vectors::first(m, 1_024))
+    chosen(rt, first(m, 1_024))
 }
 
-// The output lengths from `least` on and below `end`.
-fn lengths(rt: &impl Print, m: &[u8], least: usize, end: usize) -> io::Result<()>
-    requires { end ≤ 1025 }
-{
-    let mut t = least;
-    while t < end {
+// The output lengths of a range.
+fn lengths(rt: &impl Print, m: &[u8], lengths: Range<usize>) -> io::Result<()> {
+    for t in lengths {
         long(rt, m, t)?;
-        t += 1;
     }
     Ok(())
 }
 
 // The output lengths around one hash, and those that Argon2 has.
 fn chosen(rt: &impl Print, m: &[u8]) -> io::Result<()> {
-    long(rt, m, 1)?;
-    long(rt, m, 32)?;
-    long(rt, m, 63)?;
-    long(rt, m, 64)?;
-    long(rt, m, 65)?;
-    long(rt, m, 96)?;
-    long(rt, m, 128)?;
-    long(rt, m, 1_024)
+    for t in [1, 32, 63, 64, 65, 96, 128, 1_024] {
+        long(rt, m, t)?;
+    }
+    Ok(())
 }
 
-// H' of `t` bytes.
-fn long(rt: &impl Print, m: &[u8], t: usize) -> io::Result<()>
-    requires { t ≤ 1024 }
-{
+// H' of `t` bytes, at most 1,024.
+fn long(rt: &impl Print, m: &[u8], t: usize) -> io::Result<()> {
     let mut out = [0xa5u8; 1_024];
-    fill(rt, m, &mut out[..t])
+    fill(rt, m, first_mut(&mut out, t))
 }
 
 // Fills `out`, and prints it.
