@@ -7,10 +7,35 @@
 // with OpenSSL.
 #![tactic(auto)]
 
-ghost use Rattle.std.specs.Prelude.{◌<◌};
-
-use hmac::{Hmac, Keyed};
+use hmac::Hmac;
 use std::io;
+use vectors::digest::{Digest, at_limit, in_parts};
+use vectors::{after, first};
+
+// The state of HMAC-SHA-256 under a key.
+#[derive(Drop)]
+struct HmacRows(Hmac);
+
+impl HmacRows {
+    fn start(key: &[u8]) -> Self {
+        HmacRows(Hmac::start(key).next)
+    }
+}
+
+impl Digest for HmacRows {
+    fn feed(&mut self, part: &[u8]) -> u8 {
+        let f = self.0.feed(part);
+        let o = f.outcome;
+        let next = f.next;
+        self.0 = next;
+        o.number()
+    }
+
+    fn row(&self, rt: &impl Print, form: &[u8], length: usize, number: u8) -> io::Result<()> {
+        let tag = self.0.finish();
+        vectors::row(rt, b"hmac-sha256", form, length, number, &tag)
+    }
+}
 
 fn main(rt: HostRuntime) -> io::Result<()> {
     short_keys(&rt)?;
@@ -18,7 +43,8 @@ fn main(rt: HostRuntime) -> io::Result<()> {
     let mut space = vectors::million(0);
     vectors::pattern(&mut space);
     keys(&rt, &space)?;
-    limit(&rt, &space)
+    let key = first(after(&space, 1_000), 64);
+    at_limit(&rt, &mut HmacRows::start(key), &space)
 }
 
 // RFC 4231, cases 1 to 5.
@@ -56,13 +82,13 @@ fn long_keys(rt: &impl Print) -> io::Result<()> {
 
 // Keys around a block's length: the bytes of the pattern from 1,000 on.
 fn keys(rt: &impl Print, m: &[u8]) -> io::Result<()> {
-    let key = vectors::after(m, 1_000);
-    lengths(rt, b"key0", b"key0-parts", vectors::first(key, 0), m)?;
-    lengths(rt, b"key1", b"key1-parts", vectors::first(key, 1), m)?;
-    lengths(rt, b"key63", b"key63-parts", vectors::first(key, 63), m)?;
-    lengths(rt, b"key64", b"key64-parts", vectors::first(key, 64), m)?;
-    lengths(rt, b"key65", b"key65-parts", vectors::first(key, 65), m)?;
-    lengths(rt, b"key131", b"key131-parts", vectors::first(key, 131), m)
+    let key = after(m, 1_000);
+    lengths(rt, b"key0", b"key0-parts", first(key, 0), m)?;
+    lengths(rt, b"key1", b"key1-parts", first(key, 1), m)?;
+    lengths(rt, b"key63", b"key63-parts", first(key, 63), m)?;
+    lengths(rt, b"key64", b"key64-parts", first(key, 64), m)?;
+    lengths(rt, b"key65", b"key65-parts", first(key, 65), m)?;
+    lengths(rt, b"key131", b"key131-parts", first(key, 131), m)
 }
 
 // The messages of up to 130 bytes, and three longer ones.
@@ -73,20 +99,25 @@ fn lengths(
     key: &[u8],
     m: &[u8],
 ) -> io::Result<()> {
-    let mut n: usize = 0;
-    while n < 131 {
-        both(rt, form, form_parts, key, vectors::first(m, n))?;
-        n += 1;
+    for n in 0..131 {
+        both(rt, form, form_parts, key, first(m, n))?;
     }
-    both(rt, form, form_parts, key, vectors::first(m, 4_095))?;
-    both(rt, form, form_parts, key, vectors::first(m, 65_537))?;
+    both(rt, form, form_parts, key, first(m, 4_095))?;
+    both(rt, form, form_parts, key, first(m, 65_537))?;
     both(rt, form, form_parts, key, m)
 }
 
 // A message in one call and in parts.
 fn both(rt: &impl Print, form: &[u8], form_parts: &[u8], key: &[u8], m: &[u8]) -> io::Result<()> {
     whole(rt, form, key, m)?;
-    parts(rt, form_parts, key, m, m.len() % 7 + 1)
+    in_parts(
+        rt,
+        &mut HmacRows::start(key),
+        form_parts,
+        m,
+        m.len() % 7 + 1,
+        255,
+    )
 }
 
 // A message in one call.
@@ -108,70 +139,6 @@ fn truncated(rt: &impl Print, form: &[u8], key: &[u8], m: &[u8]) -> io::Result<(
         form,
         m.len(),
         o.number(),
-        vectors::first(&tag, 16),
+        first(&tag, 16),
     )
-}
-
-// A message in parts, the first of `first` bytes, the next by the rule of `next_size`; the last is what is left. The
-// number is the last feed's.
-fn parts(rt: &impl Print, form: &[u8], key: &[u8], m: &[u8], first: usize) -> io::Result<()>
-    requires { 0 < first }
-{
-    let k = Hmac::start(key);
-    let started = k.outcome;
-    let mut t = k.next;
-    let mut number = started.number();
-    let mut size = first;
-    let mut at: usize = 0;
-    while at < m.len() {
-        let end = at + vectors::least(size, m.len() - at);
-        let f = fed(t, &m[at..end]);
-        let o = f.outcome;
-        let next = f.next;
-        t = next;
-        number = o.number();
-        size = vectors::next_size(size, 255);
-        at = end;
-    }
-    let tag = t.finish();
-    vectors::row(rt, b"hmac-sha256", form, m.len(), number, &tag)
-}
-
-// An empty feed, and a feed of `s`.
-fn fed(t: Hmac, s: &[u8]) -> Keyed {
-    t.feed(&s[..0]).next.feed(s)
-}
-
-// The limit of a message: 511 parts of 65,536 bytes; one byte more than the rest, the rest, one byte, and none.
-fn limit(rt: &impl Print, m: &[u8]) -> io::Result<()> {
-    let part = vectors::first(m, 65_536);
-    let most = refusals::limits::MESSAGE_LIMIT;
-    let t = filled(vectors::first(vectors::after(m, 1_000), 64), part);
-    let a = tried(rt, b"over", most - 65_536, t, vectors::first(m, 65_537))?;
-    let b = tried(rt, b"limit", most, a, part)?;
-    let c = tried(rt, b"past", most, b, vectors::first(m, 1))?;
-    tried(rt, b"empty", most, c, vectors::first(m, 0))?;
-    Ok(())
-}
-
-// The state after 511 feeds of `part`.
-fn filled(key: &[u8], part: &[u8]) -> Hmac {
-    let mut t = Hmac::start(key).next;
-    let mut i: usize = 0;
-    while i < 511 {
-        let next = t.feed(part).next;
-        t = next;
-        i += 1;
-    }
-    t
-}
-
-// The number that a feed of `s` answers, and the tag that the state then has, which is of `length` bytes.
-fn tried(rt: &impl Print, form: &[u8], length: usize, t: Hmac, s: &[u8]) -> io::Result<Hmac> {
-    let f = t.feed(s);
-    let o = f.outcome;
-    let next = f.next;
-    let tag = next.finish();
-    vectors::row(rt, b"hmac-sha256", form, length, o.number(), &tag)?;
-    Ok(next)
 }
