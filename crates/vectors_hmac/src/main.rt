@@ -56,11 +56,11 @@ fn short_keys(rt: &impl Print) -> io::Result<()> {
     let cut = [0x0cu8; 20];
     let counted =
         b"\x01\x02\x03\x04\x05\x06\x07\x08\x09\x0a\x0b\x0c\x0d\x0e\x0f\x10\x11\x12\x13\x14\x15\x16\x17\x18\x19";
-    whole(rt, b"case1", &once, b"Hi There")?;
-    whole(rt, b"case2", b"Jefe", b"what do ya want for nothing?")?;
-    whole(rt, b"case3", &twenty, &fifty)?;
-    whole(rt, b"case4", counted, &other_fifty)?;
-    truncated(rt, b"case5", &cut, b"Test With Truncation")
+    whole(rt, b"case1", &once, b"Hi There", 32)?;
+    whole(rt, b"case2", b"Jefe", b"what do ya want for nothing?", 32)?;
+    whole(rt, b"case3", &twenty, &fifty, 32)?;
+    whole(rt, b"case4", counted, &other_fifty, 32)?;
+    whole(rt, b"case5", &cut, b"Test With Truncation", 16)
 }
 
 // RFC 4231, cases 6 and 7: a key that is hashed first.
@@ -71,65 +71,51 @@ fn long_keys(rt: &impl Print) -> io::Result<()> {
         b"case6",
         &key,
         b"Test Using Larger Than Block-Size Key - Hash Key First",
+        32,
     )?;
     whole(
         rt,
         b"case7",
         &key,
         b"This is a test using a larger than block-size key and a larger than block-size data. The key needs to be hashed before being used by the HMAC algorithm.",
+        32,
     )
 }
 
 // Keys around a block's length: the bytes of the pattern from 1,000 on.
-fn keys(rt: &impl Print, m: &[u8]) -> io::Result<()> {
-    let key = after(m, 1_000);
-    lengths(rt, b"key0", b"key0-parts", first(key, 0), m)?;
-    lengths(rt, b"key1", b"key1-parts", first(key, 1), m)?;
-    lengths(rt, b"key63", b"key63-parts", first(key, 63), m)?;
-    lengths(rt, b"key64", b"key64-parts", first(key, 64), m)?;
-    lengths(rt, b"key65", b"key65-parts", first(key, 65), m)?;
-    lengths(rt, b"key131", b"key131-parts", first(key, 131), m)
+fn keys(rt: &(impl Print + AllocGlobal), m: &[u8]) -> io::Result<()> {
+    for n in [0, 1, 63, 64, 65, 131] {
+        let form = format!(in rt.alloc(); "key{n}")?;
+        lengths(rt, &form, first(after(m, 1_000), n), m)?;
+    }
+    Ok(())
 }
 
 // The messages of up to 130 bytes, and three longer ones.
-fn lengths(
-    rt: &impl Print,
-    form: &[u8],
-    form_parts: &[u8],
-    key: &[u8],
-    m: &[u8],
-) -> io::Result<()> {
-    for n in 0..131 {
-        both(rt, form, form_parts, key, first(m, n))?;
+fn lengths(rt: &(impl Print + AllocGlobal), form: &str, key: &[u8], m: &[u8]) -> io::Result<()> {
+    for n in (0..131).chain([4_095, 65_537, m.len()]) {
+        both(rt, form, key, first(m, n))?;
     }
-    both(rt, form, form_parts, key, first(m, 4_095))?;
-    both(rt, form, form_parts, key, first(m, 65_537))?;
-    both(rt, form, form_parts, key, m)
+    Ok(())
 }
 
 // A message in one call and in parts.
-fn both(rt: &impl Print, form: &[u8], form_parts: &[u8], key: &[u8], m: &[u8]) -> io::Result<()> {
-    whole(rt, form, key, m)?;
+fn both(rt: &(impl Print + AllocGlobal), form: &str, key: &[u8], m: &[u8]) -> io::Result<()> {
+    let form_parts = format!(in rt.alloc(); "{form}-parts")?;
+    let first = m.len() % 7 + 1;
+    whole(rt, form.as_bytes(), key, m, 32)?;
     in_parts(
         rt,
         &mut HmacRows::start(key),
-        form_parts,
+        form_parts.as_bytes(),
         m,
-        m.len() % 7 + 1,
+        first,
         255,
     )
 }
 
-// A message in one call.
-fn whole(rt: &impl Print, form: &[u8], key: &[u8], m: &[u8]) -> io::Result<()> {
-    let t = hmac::tag(key, m);
-    let o = t.outcome;
-    let tag = t.tag;
-    vectors::row(rt, b"hmac-sha256", form, m.len(), o.number(), &tag)
-}
-
-// The first 16 bytes of the tag.
-fn truncated(rt: &impl Print, form: &[u8], key: &[u8], m: &[u8]) -> io::Result<()> {
+// A message in one call: the first `size` bytes of its tag.
+fn whole(rt: &impl Print, form: &[u8], key: &[u8], m: &[u8], size: usize) -> io::Result<()> {
     let t = hmac::tag(key, m);
     let o = t.outcome;
     let tag = t.tag;
@@ -139,6 +125,6 @@ fn truncated(rt: &impl Print, form: &[u8], key: &[u8], m: &[u8]) -> io::Result<(
         form,
         m.len(),
         o.number(),
-        first(&tag, 16),
+        first(&tag, size),
     )
 }
