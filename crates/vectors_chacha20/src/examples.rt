@@ -8,18 +8,18 @@ pub fn blocks(rt: &impl Print) -> io::Result<()> {
         rt,
         b"2.3.2",
         counted_key(),
-        b"\0\0\0\x09\0\0\0\x4a\0\0\0\0",
+        *b"\0\0\0\x09\0\0\0\x4a\0\0\0\0",
         1,
     )?;
-    block(rt, b"A.1-1", key_with(0, 0), b"", 0)?;
-    block(rt, b"A.1-2", key_with(0, 0), b"", 1)?;
-    block(rt, b"A.1-3", key_with(0, 1), b"", 1)?;
-    block(rt, b"A.1-4", key_with(0xff, 0), b"", 2)?;
+    block(rt, b"A.1-1", key_with(0, 0), [0; 12], 0)?;
+    block(rt, b"A.1-2", key_with(0, 0), [0; 12], 1)?;
+    block(rt, b"A.1-3", key_with(0, 1), [0; 12], 1)?;
+    block(rt, b"A.1-4", key_with(0xff, 0), [0; 12], 2)?;
     block(
         rt,
         b"A.1-5",
         key_with(0, 0),
-        b"\0\0\0\0\0\0\0\0\0\0\0\x02",
+        *b"\0\0\0\0\0\0\0\0\0\0\0\x02",
         0,
     )
 }
@@ -32,18 +32,18 @@ pub fn encryptions(rt: &impl Print) -> io::Result<()> {
         rt,
         b"2.4.2",
         counted_key(),
-        b"\0\0\0\0\0\0\0\x4a\0\0\0\0",
+        *b"\0\0\0\0\0\0\0\x4a\0\0\0\0",
         1,
         &mut sunscreen,
     )?;
-    block(rt, b"A.2-1", key_with(0, 0), b"", 0)?;
+    block(rt, b"A.2-1", key_with(0, 0), [0; 12], 0)?;
     let mut ietf =
         *b"Any submission to the IETF intended by the Contributor for publication as all or part of an IETF Internet-Draft or RFC and any statement made within the context of an IETF activity is considered an \"IETF Contribution\". Such statements include oral statements in IETF sessions, as well as written and electronic communications made at any time or place, which are addressed to";
     example(
         rt,
         b"A.2-2",
         key_with(0, 1),
-        b"\0\0\0\0\0\0\0\0\0\0\0\x02",
+        *b"\0\0\0\0\0\0\0\0\0\0\0\x02",
         1,
         &mut ietf,
     )?;
@@ -52,27 +52,16 @@ pub fn encryptions(rt: &impl Print) -> io::Result<()> {
     example(
         rt,
         b"A.2-3",
-        key(
-            b"\x1c\x92\x40\xa5\xeb\x55\xd3\x8a\xf3\x33\x88\x86\x04\xf6\xb5\xf0\x47\x39\x17\xc1\x40\x2b\x80\x09\x9d\xca\x5c\xbc\x20\x70\x75\xc0",
-        ),
-        b"\0\0\0\0\0\0\0\0\0\0\0\x02",
+        *b"\x1c\x92\x40\xa5\xeb\x55\xd3\x8a\xf3\x33\x88\x86\x04\xf6\xb5\xf0\x47\x39\x17\xc1\x40\x2b\x80\x09\x9d\xca\x5c\xbc\x20\x70\x75\xc0",
+        *b"\0\0\0\0\0\0\0\0\0\0\0\x02",
         42,
         &mut jabberwocky,
     )
 }
 
-// A key of the bytes of `s`.
-fn key(s: &[u8]) -> [u8; 32] {
-    let mut k = [0u8; 32];
-    slices::copy(&mut k, s);
-    k
-}
-
 // The key 00 01 02 .. 1f.
 fn counted_key() -> [u8; 32] {
-    key(
-        b"\x00\x01\x02\x03\x04\x05\x06\x07\x08\x09\x0a\x0b\x0c\x0d\x0e\x0f\x10\x11\x12\x13\x14\x15\x16\x17\x18\x19\x1a\x1b\x1c\x1d\x1e\x1f",
-    )
+    std::array::from_fn(|i| i as u8)
 }
 
 // The key of zeros but for its second and its last byte.
@@ -84,22 +73,26 @@ fn key_with(second: u8, last: u8) -> [u8; 32] {
 }
 
 // The block of a counter.
-fn block(rt: &impl Print, form: &[u8], key: [u8; 32], nonce: &[u8], counter: u8) -> io::Result<()> {
+fn block(
+    rt: &impl Print,
+    form: &[u8],
+    key: [u8; 32],
+    nonce: [u8; 12],
+    counter: u8,
+) -> io::Result<()> {
     let mut zeros = [0u8; 64];
     example(rt, form, key, nonce, counter, &mut zeros)
 }
 
-// A text under a key and a nonce (zeros where `nonce` ends), from the block of a counter on.
+// A text under a key and a nonce, from the block of a counter on.
 fn example(
     rt: &impl Print,
     form: &[u8],
     key: [u8; 32],
-    nonce: &[u8],
+    nonce: [u8; 12],
     counter: u8,
     text: &mut [u8],
 ) -> io::Result<()> {
-    let mut twelve = [0u8; 12];
-    slices::copy(&mut twelve, nonce);
-    ChaCha20::apply(key, twelve, 64 * (counter as u64), text);
+    ChaCha20::apply(key, nonce, 64 * u64::from(counter), text);
     vectors::row(rt, b"chacha20", form, text.len(), 0, text)
 }

@@ -19,6 +19,5 @@ fn main(rt: HostRuntime) -> io::Result<()> {
     examples::encryptions(&rt)?;
     let mut space = [0u8; 300];
     runs::lengths(&rt, &mut space)?;
-    runs::borders(&rt, &mut space)?;
-    runs::far(&rt, &mut space)
+    runs::positions(&rt, &mut space)
 }
