@@ -5,10 +5,8 @@ use std::io;
 // A thousand keys, each with a block that is encrypted and one that is decrypted.
 pub fn random_blocks(rt: &impl Print) -> io::Result<()> {
     let mut state: u64 = 1;
-    let mut i: usize = 0;
-    while i < 1_000 {
+    for _ in 0..1_000 {
         state = random_block(rt, state)?;
-        i += 1;
     }
     Ok(())
 }
@@ -30,12 +28,12 @@ fn random_block(rt: &impl Print, state: u64) -> io::Result<u64> {
 }
 
 // One block, encrypted again and again.
-pub fn repeated_blocks(rt: &impl Print) -> io::Result<()> {
-    repeated(rt, b"repeated-0", 0)?;
-    repeated(rt, b"repeated-1", 1)?;
-    repeated(rt, b"repeated-2", 2)?;
-    repeated(rt, b"repeated-1000", 1_000)?;
-    repeated(rt, b"repeated-65537", 65_537)
+pub fn repeated_blocks(rt: &(impl Print + AllocGlobal)) -> io::Result<()> {
+    for n in [0, 1, 2, 1_000, 65_537] {
+        let form = format!(in rt.alloc(); "repeated-{n}")?;
+        repeated(rt, form.as_bytes(), n)?;
+    }
+    Ok(())
 }
 
 // A block by rule, encrypted n times under a key by rule.

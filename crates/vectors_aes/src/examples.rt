@@ -33,12 +33,8 @@ fn key() -> RoundKeys {
 
 // Words one after the other, the first byte of each the most significant, as many as `out` has room for.
 fn serialize(words: &[u32], out: &mut [u8]) {
-    let n = vectors::least(words.len(), out.len() / 4);
-    let mut i: usize = 0;
-    while i < n {
-        let at = 4 * i;
-        slices::copy(&mut out[at..], &words::be::bytes32(words[i]));
-        i += 1;
+    for (bytes, word) in out.chunks_exact_mut(4).zip(words) {
+        bytes.copy_from_slice(&word.to_be_bytes());
     }
 }
 

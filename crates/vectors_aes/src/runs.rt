@@ -1,15 +1,15 @@
 // CBC mode on messages by rule, under a key and an IV by rule: the first 32 bytes of the pattern and the 16 behind.
-ghost use Rattle.std.specs.Prelude.{◌<◌};
+ghost use Rattle.std.specs.Prelude.{◌<◌, ◌≤◌, length};
+ghost use Rattle.std.specs.Iterator.{at_most};
 
 use aes::RoundKeys;
 use std::io;
+use vectors::{first_mut, pattern};
 
 // Every length to that of `space`.
 pub fn lengths(rt: &impl Print, space: &mut [u8]) -> io::Result<()> {
-    let mut n: usize = 0;
-    while n <= space.len() {
-        forms(rt, &mut space[..n])?;
-        n += 1;
+    for n in 0..=space.len() {
+        forms(rt, first_mut(space, n))?;
     }
     Ok(())
 }
@@ -23,7 +23,7 @@ fn forms(rt: &impl Print, out: &mut [u8]) -> io::Result<()> {
 
 // A message encrypted whole.
 fn encrypted(rt: &impl Print, out: &mut [u8]) -> io::Result<()> {
-    vectors::pattern(out);
+    pattern(out);
     let next = aes_cbc::encrypt_cbc(keys(), iv(), out);
     vectors::row(rt, b"aes256-cbc", b"encrypt", out.len(), 0, out)?;
     vectors::row(rt, b"aes256-cbc", b"encrypt-next", out.len(), 0, &next)
@@ -31,16 +31,16 @@ fn encrypted(rt: &impl Print, out: &mut [u8]) -> io::Result<()> {
 
 // A message decrypted in parts.
 fn decrypted(rt: &impl Print, out: &mut [u8]) -> io::Result<()> {
-    vectors::pattern(out);
-    let next = decrypt_parts(out);
+    pattern(out);
+    let next = Parts::of(out).fold(iv(), decrypt_part);
     vectors::row(rt, b"aes256-cbc", b"decrypt", out.len(), 0, out)?;
     vectors::row(rt, b"aes256-cbc", b"decrypt-next", out.len(), 0, &next)
 }
 
 // A message encrypted in parts and decrypted whole.
 fn back(rt: &impl Print, out: &mut [u8]) -> io::Result<()> {
-    vectors::pattern(out);
-    encrypt_parts(out);
+    pattern(out);
+    Parts::of(out).fold(iv(), encrypt_part);
     aes_cbc::decrypt_cbc(keys(), iv(), out);
     vectors::row(rt, b"aes256-cbc", b"back", out.len(), 0, out)
 }
@@ -48,35 +48,55 @@ fn back(rt: &impl Print, out: &mut [u8]) -> io::Result<()> {
 // The round keys by rule.
 fn keys() -> RoundKeys {
     let mut key = [0u8; 32];
-    vectors::pattern(&mut key);
+    pattern(&mut key);
     RoundKeys::expand(key)
 }
 
 // The IV by rule.
 fn iv() -> [u8; 16] {
     let mut p = [0u8; 48];
-    vectors::pattern(&mut p);
+    pattern(&mut p);
     let mut iv = [0u8; 16];
-    slices::copy(&mut iv, vectors::after(&p, 32));
+    iv.copy_from_slice(&p[32..]);
     iv
 }
 
-// How many bytes the part at `at` has, of a message of n bytes.
-fn part_length(at: usize, n: usize) -> usize
-    ensures { 0 < result }
-{
-    16 * ((at / 16 + n % 5) % 5 + 1)
+// The parts that are left of a message of `whole` bytes: of one to five blocks each, but for the last.
+#[derive(Drop)]
+struct Parts<'a> {
+    whole: usize,
+    rest: &'a mut [u8],
+    ghost is_within: { length rest.now ≤ whole },
 }
 
-// Encrypts a message in parts.
-fn encrypt_parts(out: &mut [u8]) {
-    let mut prev = iv();
-    let mut at: usize = 0;
-    while at < out.len() {
-        let end = at + vectors::least(part_length(at, out.len()), out.len() - at);
-        let next = encrypt_part(prev, &mut out[at..end]);
-        prev = next;
-        at = end;
+impl<'a> Parts<'a> {
+    fn of(message: &'a mut [u8]) -> Parts<'a> {
+        Parts {
+            whole: message.len(),
+            rest: message,
+        }
+    }
+
+    // How many bytes the next part has, where it is not the last.
+    fn size(&self) -> usize
+        ensures { 0 < result }
+    {
+        let at = self.whole - self.rest.len();
+        16 * ((at / 16 + self.whole % 5) % 5 + 1)
+    }
+}
+
+impl<'a> Iterator for Parts<'a> {
+    type Item = &'a mut [u8];
+
+    ghost remaining = { λ parts. at_most (length parts.rest.now) };
+
+    fn next(&mut self) -> Option<&'a mut [u8]> {
+        if self.rest.is_empty() {
+            return None;
+        }
+        let size = self.size().min(self.rest.len());
+        self.rest.split_off_mut(..size)
     }
 }
 
@@ -85,19 +105,6 @@ fn encrypt_part(prev: [u8; 16], part: &mut [u8]) -> [u8; 16] {
     let mut short = [0u8; 15];
     let same = aes_cbc::encrypt_cbc(keys(), prev, &mut short);
     aes_cbc::encrypt_cbc(keys(), same, part)
-}
-
-// Decrypts a message in parts.
-fn decrypt_parts(out: &mut [u8]) -> [u8; 16] {
-    let mut prev = iv();
-    let mut at: usize = 0;
-    while at < out.len() {
-        let end = at + vectors::least(part_length(at, out.len()), out.len() - at);
-        let next = decrypt_part(prev, &mut out[at..end]);
-        prev = next;
-        at = end;
-    }
-    prev
 }
 
 // Decrypts a run that is too short for a block, and a part behind it.
