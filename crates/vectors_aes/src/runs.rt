@@ -32,7 +32,9 @@ fn encrypted(rt: &impl Print, out: &mut [u8]) -> io::Result<()> {
 // A message decrypted in parts.
 fn decrypted(rt: &impl Print, out: &mut [u8]) -> io::Result<()> {
     pattern(out);
-    let next = Parts::of(out).fold(iv(), decrypt_part);
+    let next = Parts::of(out).fold(iv(), |prev, part| {
+        behind_short(aes_cbc::decrypt_cbc, prev, part)
+    });
     vectors::row(rt, b"aes256-cbc", b"decrypt", out.len(), 0, out)?;
     vectors::row(rt, b"aes256-cbc", b"decrypt-next", out.len(), 0, &next)
 }
@@ -40,7 +42,9 @@ fn decrypted(rt: &impl Print, out: &mut [u8]) -> io::Result<()> {
 // A message encrypted in parts and decrypted whole.
 fn back(rt: &impl Print, out: &mut [u8]) -> io::Result<()> {
     pattern(out);
-    Parts::of(out).fold(iv(), encrypt_part);
+    Parts::of(out).fold(iv(), |prev, part| {
+        behind_short(aes_cbc::encrypt_cbc, prev, part)
+    });
     aes_cbc::decrypt_cbc(keys(), iv(), out);
     vectors::row(rt, b"aes256-cbc", b"back", out.len(), 0, out)
 }
@@ -100,16 +104,13 @@ impl<'a> Iterator for Parts<'a> {
     }
 }
 
-// Encrypts a run that is too short for a block, and a part behind it.
-fn encrypt_part(prev: [u8; 16], part: &mut [u8]) -> [u8; 16] {
+// A run that is too short for a block, and a part behind it, through a mode's function.
+fn behind_short<C>(cbc: C, prev: [u8; 16], part: &mut [u8]) -> [u8; 16]
+where
+    C: Fn(RoundKeys, [u8; 16], &mut [u8]) -> [u8; 16],
+    requires { C.IsAlwaysCallable cbc }
+{
     let mut short = [0u8; 15];
-    let same = aes_cbc::encrypt_cbc(keys(), prev, &mut short);
-    aes_cbc::encrypt_cbc(keys(), same, part)
-}
-
-// Decrypts a run that is too short for a block, and a part behind it.
-fn decrypt_part(prev: [u8; 16], part: &mut [u8]) -> [u8; 16] {
-    let mut short = [0u8; 15];
-    let same = aes_cbc::decrypt_cbc(keys(), prev, &mut short);
-    aes_cbc::decrypt_cbc(keys(), same, part)
+    let same = cbc(keys(), prev, &mut short);
+    cbc(keys(), same, part)
 }
