@@ -3,15 +3,13 @@ use std::io;
 
 // Fills the memory by rule.
 pub fn fill(memory: &mut [u64]) {
-    let mut i: usize = 0;
-    while i < memory.len() {
-        memory[i] = word(i);
-        i += 1;
+    for (i, word) in memory.iter_mut().enumerate() {
+        *word = word_at(i);
     }
 }
 
 // The word at a place, by rule; no place has zero.
-fn word(i: usize) -> u64 {
+fn word_at(i: usize) -> u64 {
     i as u64 ^ 0xa5a5_a5a5_a5a5_a5a5
 }
 
@@ -26,25 +24,15 @@ pub fn row(rt: &impl Print, name: &[u8], memory: &[u64]) -> io::Result<()> {
 
 // How many words at the front are zeros.
 fn zeros(memory: &[u64]) -> usize {
-    let mut n: usize = 0;
-    while n < memory.len() {
-        if memory[n] != 0 {
-            return n;
-        }
-        n += 1;
-    }
-    n
+    memory.iter().take_while(|word| **word == 0).count()
 }
 
 // How many words at the end are as `fill` left them.
 fn kept(memory: &[u64]) -> usize {
-    let mut n: usize = 0;
-    while n < memory.len() {
-        let i = memory.len() - 1 - n;
-        if memory[i] != word(i) {
-            return n;
-        }
-        n += 1;
-    }
-    n
+    memory
+        .iter()
+        .enumerate()
+        .rev()
+        .take_while(|(i, word)| **word == word_at(*i))
+        .count()
 }

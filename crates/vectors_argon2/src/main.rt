@@ -11,6 +11,7 @@
 ghost use Rattle.std.specs.Prelude.{◌≡◌, length};
 
 use std::io;
+use vectors::table::Lines;
 
 mod lent;
 mod long_message;
@@ -20,7 +21,9 @@ fn main(rt: HostRuntime) -> io::Result<()> {
     let mut space = table();
     let n = console::read_input(&rt, &mut space);
     let mut memory = room();
-    lines(&rt, &space[..n], &mut memory)?;
+    for line in Lines::of(&space[..n]) {
+        runs::rows(&rt, line, &mut memory)?;
+    }
     long_message::rows(&rt, b'a', &mut memory)
 }
 
@@ -36,15 +39,4 @@ fn room() -> [u64; 153_600]
     ensures { 153600 ≡ length result }
 {
     [0; 153_600]
-}
-
-// The rows of each line of a table.
-fn lines(rt: &impl Print, s: &[u8], memory: &mut [u64]) -> io::Result<()> {
-    let mut at: usize = 0;
-    while at < s.len() {
-        let end = vectors::table::find(s, at, b'\n');
-        runs::rows(rt, &s[at..end], memory)?;
-        at = end + 1;
-    }
-    Ok(())
 }

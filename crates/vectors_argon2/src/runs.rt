@@ -7,10 +7,10 @@ use vectors::table::{bytes, field, number};
 // Both rows of a line: the first words of `memory` are lent, as many as it says.
 pub fn rows(rt: &impl Print, line: &[u8], memory: &mut [u64]) -> io::Result<()> {
     let n = number(field(line, 10)) as usize;
-    if n <= memory.len() {
-        run(rt, line, &mut memory[..n])?;
+    match memory.get_mut(..n) {
+        Some(lent) => run(rt, line, lent),
+        None => Ok(()),
     }
-    Ok(())
 }
 
 // A run in a memory that is filled by rule before.
@@ -22,23 +22,18 @@ fn run(rt: &impl Print, line: &[u8], memory: &mut [u64]) -> io::Result<()> {
 
 // A call of the function that a line names.
 fn call(rt: &impl Print, line: &[u8], memory: &mut [u64]) -> io::Result<()> {
-    if slices::same(field(line, 1), b"hash") {
-        return hash(rt, line, memory);
+    match field(line, 1) {
+        b"hash" => hash(rt, line, memory),
+        _ => transform(rt, line, memory),
     }
-    transform(rt, line, memory)
-}
-
-// The type of its number.
-fn kind_of(y: u64) -> Kind {
-    if y == 2 {
-        return Kind::Argon2id;
-    }
-    Kind::Argon2d
 }
 
 // A line's type.
 fn kind(line: &[u8]) -> Kind {
-    kind_of(number(field(line, 2)))
+    match number(field(line, 2)) {
+        2 => Kind::Argon2id,
+        _ => Kind::Argon2d,
+    }
 }
 
 // A line's passes.
@@ -74,19 +69,14 @@ fn transform(rt: &impl Print, line: &[u8], memory: &mut [u64]) -> io::Result<()>
     vectors::row(rt, b"transform", field(line, 0), 32, o.number(), &key)
 }
 
-// The tag of a line's inputs.
+// The tag of a line's inputs, of as many bytes as it says.
 fn hash(rt: &impl Print, line: &[u8], memory: &mut [u64]) -> io::Result<()> {
     let mut out = [0x5au8; 128];
-    cut(rt, line, memory, &mut out)
-}
-
-// The tag over the first bytes of `out`, as many as the line says.
-fn cut(rt: &impl Print, line: &[u8], memory: &mut [u64], out: &mut [u8]) -> io::Result<()> {
     let n = number(field(line, 11)) as usize;
-    if n <= out.len() {
-        tag(rt, line, memory, &mut out[..n])?;
+    match out.get_mut(..n) {
+        Some(cut) => tag(rt, line, memory, cut),
+        None => Ok(()),
     }
-    Ok(())
 }
 
 // The tag over `out`.
