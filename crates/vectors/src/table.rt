@@ -6,6 +6,15 @@ ghost use Rattle.std.specs.Prelude.{◌≤◌, ◌<◌, min, length};
 ghost use Rattle.std.specs.Iterator.{at_most};
 
 use crate::after;
+use std::io;
+use std::io::Read;
+
+// The table on standard input.
+pub fn read(rt: &(impl Input + AllocGlobal)) -> io::Result<Vec<u8>> {
+    let mut table = Vec::new(rt.alloc());
+    rt.reader().read_to_end(&mut table)?;
+    Ok(table)
+}
 
 // The lines of a table from the first on, each without its end, which the last need not have.
 #[derive(Drop)]
