@@ -8,18 +8,13 @@ use argon2::Kind;
 use std::io;
 use vectors::first;
 
-// Both of them, of a byte repeated.
+// Both of them, of a byte repeated, in the first 1,024 words of `memory`.
 pub fn rows(rt: &impl Print, b: u8, memory: &mut [u64]) -> io::Result<()> {
     let long = [b; 2_796_187];
-    run(rt, &long, memory)
-}
-
-// Both rows, in the first 1,024 words of `memory`.
-fn run(rt: &impl Print, long: &[u8], memory: &mut [u64]) -> io::Result<()> {
-    if 1_024 <= memory.len() {
-        within(rt, long, &mut memory[..1_024])?;
+    match memory.get_mut(..1_024) {
+        Some(lent) => within(rt, &long, lent),
+        None => Ok(()),
     }
-    Ok(())
 }
 
 // Both rows, in a memory that is filled by rule before.

@@ -8,35 +8,19 @@
 // The rows of `long-message` stand behind those of the lines. tools/vectors_argon2.py writes both, with libargon2.
 #![tactic(auto)]
 
-ghost use Rattle.std.specs.Prelude.{◌≡◌, length};
-
 use std::io;
-use vectors::table::Lines;
+use vectors::table::{self, Lines};
 
 mod lent;
 mod long_message;
 mod runs;
 
 fn main(rt: HostRuntime) -> io::Result<()> {
-    let mut space = table();
-    let n = console::read_input(&rt, &mut space);
-    let mut memory = room();
-    for line in Lines::of(&space[..n]) {
+    let cases = table::read(&rt)?;
+    // the most words that are lent: 1,200 blocks
+    let mut memory = vec![in rt.alloc(); 0u64; 153_600]?;
+    for line in Lines::of(&cases) {
         runs::rows(&rt, line, &mut memory)?;
     }
     long_message::rows(&rt, b'a', &mut memory)
-}
-
-// Room for all lines.
-fn table() -> [u8; 131_072]
-    ensures { 131072 ≡ length result }
-{
-    [0; 131_072]
-}
-
-// The most words that are lent: 1,200 blocks.
-fn room() -> [u64; 153_600]
-    ensures { 153600 ≡ length result }
-{
-    [0; 153_600]
 }

@@ -4,5 +4,5 @@ use mathlib.Core.Path.{sym}
 use lib.ListN.{length-replicate}
 use Rattle.vectors_argon2.proofs.long_message.rows.Goals as goal
 
-pub slice_bounds-run-end : goal.slice_bounds-run-end
-slice_bounds-run-end g c = sym (length-replicate 2796187 c.args.b)
+pub slice_bounds-within-end : goal.slice_bounds-within-end
+slice_bounds-within-end g c = sym (length-replicate 2796187 c.args.b)
