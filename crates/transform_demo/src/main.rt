@@ -33,12 +33,10 @@ fn main(rt: HostRuntime) -> io::Result<()> {
 // A hundred steps of 40,000 rounds, with what is done after each.
 fn advance(rt: &impl Print, t: Transformation) -> io::Result<Transformation> {
     let mut x = t;
-    let mut i: u32 = 0;
-    while i < 100 {
+    for _ in 0..100 {
         let next = x.advance(40_000);
         x = next;
         show(rt, x.done, x.rounds)?;
-        i += 1;
     }
     Ok(x)
 }
@@ -54,5 +52,5 @@ fn percent(done: u32, rounds: u32) -> u64 {
     if rounds == 0 {
         return 100;
     }
-    (done as u64) * 100 / (rounds as u64)
+    u64::from(done) * 100 / u64::from(rounds)
 }
