@@ -18,27 +18,24 @@ fn main(rt: HostRuntime) -> io::Result<()> {
         Transformation::start(composite, seed, ROUNDS_LIMIT).next,
     )?;
     let f = t.finish();
-    let o = f.outcome;
-    let key = f.key;
     vectors::row(
         &rt,
         b"transformed",
         b"demo",
         t.done as usize,
-        o.number(),
-        &key,
+        f.outcome.number(),
+        &f.key,
     )
 }
 
 // A hundred steps of 40,000 rounds, with what is done after each.
 fn advance(rt: &impl Print, t: Transformation) -> io::Result<Transformation> {
-    let mut x = t;
+    let mut t = t;
     for _ in 0..100 {
-        let next = x.advance(40_000);
-        x = next;
-        show(rt, x.done, x.rounds)?;
+        t = t.advance(40_000);
+        show(rt, t.done, t.rounds)?;
     }
-    Ok(x)
+    Ok(t)
 }
 
 // A line of the screen.
@@ -49,8 +46,7 @@ fn show(rt: &impl Print, done: u32, rounds: u32) -> io::Result<()> {
 
 // The share that is done, in whole percent: all of no rounds.
 fn percent(done: u32, rounds: u32) -> u64 {
-    if rounds == 0 {
-        return 100;
-    }
-    u64::from(done) * 100 / u64::from(rounds)
+    (u64::from(done) * 100)
+        .checked_div(u64::from(rounds))
+        .unwrap_or(100)
 }
