@@ -24,16 +24,13 @@ impl HmacRows {
 
 impl Digest for HmacRows {
     fn feed(&mut self, part: &[u8]) -> u8 {
-        let f = self.0.feed(part);
-        let o = f.outcome;
-        let next = f.next;
-        self.0 = next;
-        o.number()
+        let fed = self.0.feed(part);
+        self.0 = fed.next;
+        fed.outcome.number()
     }
 
     fn row(&self, rt: &impl Print, form: &[u8], length: usize, number: u8) -> io::Result<()> {
-        let tag = self.0.finish();
-        vectors::row(rt, b"hmac-sha256", form, length, number, &tag)
+        vectors::row(rt, b"hmac-sha256", form, length, number, &self.0.finish())
     }
 }
 
@@ -117,14 +114,12 @@ fn both(rt: &(impl Print + AllocGlobal), form: &str, key: &[u8], m: &[u8]) -> io
 // A message in one call: the first `size` bytes of its tag.
 fn whole(rt: &impl Print, form: &[u8], key: &[u8], m: &[u8], size: usize) -> io::Result<()> {
     let t = hmac::tag(key, m);
-    let o = t.outcome;
-    let tag = t.tag;
     vectors::row(
         rt,
         b"hmac-sha256",
         form,
         m.len(),
-        o.number(),
-        first(&tag, size),
+        t.outcome.number(),
+        first(&t.tag, size),
     )
 }
