@@ -82,18 +82,6 @@ pub fn least(a: usize, b: usize) -> usize
     a.min(b)
 }
 
-// The length of the part after one of `size` bytes: twice as many and one more, or 1 again where `size` is `longest` or
-// above.
-pub fn next_size(size: usize, longest: u8) -> usize
-    ensures { 0 < result }
-{
-    if size < usize::from(longest) {
-        2 * size + 1
-    } else {
-        1
-    }
-}
-
 // A row of the output.
 pub fn row(
     rt: &impl Print,
