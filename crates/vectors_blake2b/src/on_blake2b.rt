@@ -17,16 +17,13 @@ impl Blake2bRows {
 
 impl Digest for Blake2bRows {
     fn feed(&mut self, part: &[u8]) -> u8 {
-        let f = self.0.feed(part);
-        let o = f.outcome;
-        let next = f.next;
-        self.0 = next;
-        o.number()
+        let fed = self.0.feed(part);
+        self.0 = fed.next;
+        fed.outcome.number()
     }
 
     fn row(&self, rt: &impl Print, form: &[u8], length: usize, number: u8) -> io::Result<()> {
-        let d = self.0.finish();
-        vectors::row(rt, b"blake2b", form, length, number, &d)
+        vectors::row(rt, b"blake2b", form, length, number, &self.0.finish())
     }
 }
 
@@ -78,16 +75,13 @@ fn digests(rt: &impl Print, m: &[u8]) -> io::Result<()> {
 
 // A message in one feed.
 fn whole(rt: &impl Print, form: &[u8], m: &[u8], nn: u8) -> io::Result<()> {
-    let f = Blake2b::start(nn).feed(m);
-    let o = f.outcome;
-    let next = f.next;
-    let d = next.finish();
+    let fed = Blake2b::start(nn).feed(m);
     vectors::row(
         rt,
         b"blake2b",
         form,
         m.len(),
-        o.number(),
-        first(&d, usize::from(nn)),
+        fed.outcome.number(),
+        first(&fed.next.finish(), usize::from(nn)),
     )
 }
