@@ -10,16 +10,13 @@ pub struct Sha256Rows(Sha256);
 
 impl Digest for Sha256Rows {
     fn feed(&mut self, part: &[u8]) -> u8 {
-        let f = self.0.feed(part);
-        let o = f.outcome;
-        let next = f.next;
-        self.0 = next;
-        o.number()
+        let fed = self.0.feed(part);
+        self.0 = fed.next;
+        fed.outcome.number()
     }
 
     fn row(&self, rt: &impl Print, form: &[u8], length: usize, number: u8) -> io::Result<()> {
-        let d = self.0.finish();
-        vectors::row(rt, b"sha256", form, length, number, &d)
+        vectors::row(rt, b"sha256", form, length, number, &self.0.finish())
     }
 }
 
@@ -30,9 +27,7 @@ impl Sha2 for Sha256Rows {
 
     fn whole(rt: &impl Print, form: &[u8], m: &[u8]) -> io::Result<()> {
         let h = sha256::hash(m);
-        let o = h.outcome;
-        let d = h.digest;
-        vectors::row(rt, b"sha256", form, m.len(), o.number(), &d)
+        vectors::row(rt, b"sha256", form, m.len(), h.outcome.number(), &h.digest)
     }
 }
 
