@@ -6,6 +6,7 @@ ghost use Rattle.std.specs.Prelude.{◌≤◌, ◌<◌, min, length};
 ghost use Rattle.std.specs.Iterator.{at_most};
 
 use crate::after;
+use std::alloc::{AllocError, Global};
 use std::io;
 use std::io::Read;
 
@@ -72,6 +73,14 @@ pub fn bytes(field: &[u8], out: &mut [u8]) -> usize {
         *byte = 16 * digit(pair[0]) + digit(pair[1]);
     }
     n
+}
+
+// All of a field's bytes, none where they are absent.
+pub fn decoded(alloc: Global, field: &[u8]) -> Result<Vec<u8>, AllocError> {
+    after(field, 1)
+        .chunks_exact(2)
+        .map(|pair| 16 * digit(pair[0]) + digit(pair[1]))
+        .collect(alloc)
 }
 
 // The first 32 bytes of a field, zeros where it has fewer.
