@@ -10,7 +10,7 @@
 use refusals::Written;
 use std::io;
 use vectors::first;
-use vectors::table::{self, Lines, bytes, field, is_given, number};
+use vectors::table::{self, Lines, decoded, field, is_given, number};
 
 fn main(rt: HostRuntime) -> io::Result<()> {
     let cases = table::read(&rt)?;
@@ -33,18 +33,16 @@ fn answer(rt: &(impl Print + AllocGlobal), line: &[u8]) -> io::Result<()> {
 
 // What is told of a name in a line's dictionary: `found`, the value's type, and the stretch that is shown; or `none`,
 // and the place of a refusal. The number stands behind the type or place.
-fn looked(rt: &impl Print, line: &[u8]) -> io::Result<()> {
-    let mut space = console::buffer();
-    let n = bytes(field(line, 1), &mut space);
-    let mut names = [0u8; 32];
-    let m = bytes(field(line, 3), &mut names);
+fn looked(rt: &(impl Print + AllocGlobal), line: &[u8]) -> io::Result<()> {
+    let items = decoded(rt.alloc(), field(line, 1))?;
+    let name = decoded(rt.alloc(), field(line, 3))?;
     let mut number: u8 = 255;
     let mut place: usize = 255;
     let mut found = true;
     let mut kind: u8 = 255;
     let value = dictionary::lookup(
-        first(&space, n),
-        first(&names, m),
+        &items,
+        &name,
         &mut number,
         &mut place,
         &mut found,
@@ -59,11 +57,10 @@ fn looked(rt: &impl Print, line: &[u8]) -> io::Result<()> {
 
 // The listing of a line's file, with room for any text (crate listing, Laws.Text, length-text).
 fn listed(rt: &(impl Print + AllocGlobal), line: &[u8]) -> io::Result<()> {
-    let mut file = vec![in rt.alloc(); 0u8; 65_537]?;
+    let mut file = decoded(rt.alloc(), field(line, 1))?;
+    file.resize(number(field(line, 2)) as usize, 0)?;
     let mut text = vec![in rt.alloc(); 0u8; 196_608]?;
-    bytes(field(line, 1), &mut file);
-    let n = number(field(line, 2)) as usize;
-    match listing::list(first(&file, n), &mut text) {
+    match listing::list(&file, &mut text) {
         Written::Wrote(n) => rt.write_all(first(&text, n)),
         Written::Refused(_) => rt.write_all(b"no room\n"),
     }
