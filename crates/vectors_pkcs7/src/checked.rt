@@ -5,33 +5,28 @@ use std::io;
 
 // A piece with padding of each length, right and then changed.
 pub fn paddings(rt: &impl Print) -> io::Result<()> {
-    let mut n: usize = 0;
-    while n < 16 {
+    for n in 0..16 {
         tried(rt, b"right", padded(n))?;
         changed(rt, n)?;
-        n += 1;
     }
     Ok(())
 }
 
 // Every byte 16 times, and every byte behind 15 that are no padding.
 pub fn bytes(rt: &impl Print) -> io::Result<()> {
-    let mut v: usize = 0;
-    while v < 256 {
-        tried(rt, b"same", [v as u8; 16])?;
-        tried(rt, b"last", ending(v as u8))?;
-        v += 1;
+    for b in 0..=u8::MAX {
+        tried(rt, b"same", [b; 16])?;
+        tried(rt, b"last", ending(b))?;
     }
     Ok(())
 }
 
 // The padding of a payload of n bytes with each of its bytes changed in turn.
 fn changed(rt: &impl Print, n: usize) -> io::Result<()> {
-    let mut i = n;
-    while i < 16 {
-        tried(rt, b"changed", flipped(padded(n), i, 0x01))?;
-        tried(rt, b"changed", flipped(padded(n), i, 0x80))?;
-        i += 1;
+    for i in n..16 {
+        for bits in [0x01, 0x80] {
+            tried(rt, b"changed", flipped(padded(n), i, bits))?;
+        }
     }
     Ok(())
 }
@@ -53,12 +48,11 @@ fn ending(last: u8) -> [u8; 16] {
 }
 
 // A piece with bits of one byte changed.
-fn flipped(piece: [u8; 16], at: usize, bits: u8) -> [u8; 16]
+fn flipped(mut piece: [u8; 16], at: usize, bits: u8) -> [u8; 16]
     requires { at < 16 }
 {
-    let mut other = piece;
-    other[at] = piece[at] ^ bits;
-    other
+    piece[at] ^= bits;
+    piece
 }
 
 // The check's answer on a piece.

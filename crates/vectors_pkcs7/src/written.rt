@@ -3,21 +3,17 @@ use std::io;
 
 // Every payload of up to 48 bytes, in front of a slice that has room for its padding.
 pub fn payloads(rt: &impl Print, space: &mut [u8]) -> io::Result<()> {
-    let mut n: usize = 0;
-    while n < 49 {
+    for n in 0..49 {
         adds(rt, space, n)?;
         padded(rt, b"pad", space, n)?;
-        n += 1;
     }
     Ok(())
 }
 
 // A payload of 20 bytes in slices of every length to that of `space`.
 pub fn rooms(rt: &impl Print, space: &mut [u8]) -> io::Result<()> {
-    let mut n: usize = 0;
-    while n <= space.len() {
+    for n in 0..=space.len() {
         padded(rt, b"room", &mut space[..n], 20)?;
-        n += 1;
     }
     Ok(())
 }
