@@ -32,40 +32,37 @@ fn seed() -> [u8; 32] {
     a
 }
 
-// 100,000 rounds in steps of several sizes, and how the halves stand after each of some large ones.
-pub fn steps(rt: &impl Print) -> io::Result<()> {
-    by(rt, b"by-1", 100_000, 1)?;
-    by(rt, b"by-7", 14_286, 7)?;
-    by(rt, b"by-999", 101, 999)?;
-    by(rt, b"by-65536", 2, 65_536)?;
-    by(rt, b"by-100000", 1, 100_000)?;
-    by(
-        rt,
-        b"by-18446744073709551615",
-        1,
-        18_446_744_073_709_551_615,
-    )?;
-    shown(
-        rt,
-        b"by-30000",
-        start(rt, b"by-30000", composite(), seed(), 100_000)?,
-        5,
-        30_000,
-    )
+// Up to n steps of `step` rounds, under the composite key and the seed by rule, and T.
+fn by_rule(rt: &impl Print, form: &[u8], rounds: u64, n: u64, step: u64) -> io::Result<()> {
+    whole(rt, form, composite(), seed(), rounds, n, step)
 }
 
-// 100,000 rounds in steps of one size.
-fn by(rt: &impl Print, form: &[u8], n: u64, step: u64) -> io::Result<()> {
-    whole(rt, form, composite(), seed(), 100_000, n, step)
+// A start under the composite key and the seed by rule, and the state.
+fn start_by_rule(rt: &impl Print, form: &[u8], rounds: u64) -> io::Result<Transformation> {
+    start(rt, form, composite(), seed(), rounds)
+}
+
+// 100,000 rounds in steps of several sizes, and how the halves stand after each of some large ones.
+pub fn steps(rt: &impl Print) -> io::Result<()> {
+    for (form, n, step) in [
+        ("by-1", 100_000, 1),
+        ("by-7", 14_286, 7),
+        ("by-999", 101, 999),
+        ("by-65536", 2, 65_536),
+        ("by-100000", 1, 100_000),
+        ("by-18446744073709551615", 1, u64::MAX),
+    ] {
+        by_rule(rt, form.as_bytes(), 100_000, n, step)?;
+    }
+    let t = start_by_rule(rt, b"by-30000", 100_000)?;
+    shown(rt, b"by-30000", t, 5, 30_000)
 }
 
 // Two hundred pseudo-random composite keys, seeds and rounds.
 pub fn random_figures(rt: &impl Print) -> io::Result<()> {
-    let mut state: u64 = 2;
-    let mut i: usize = 0;
-    while i < 200 {
+    let mut state = 2;
+    for _ in 0..200 {
         state = random(rt, state)?;
-        i += 1;
     }
     Ok(())
 }
@@ -78,18 +75,18 @@ fn random(rt: &impl Print, state: u64) -> io::Result<u64> {
     let x = vectors::random(state, &mut composite);
     let y = vectors::random(x, &mut seed);
     let z = vectors::random(y, &mut four);
-    let rounds = (words::be::u32_at(&four, 0) as u64) % 2_001;
+    let rounds = u64::from(u32::from_be_bytes(four)) % 2_001;
     whole(rt, b"random", composite, seed, rounds, 3, rounds / 3 + 1)?;
     Ok(z)
 }
 
 // No round, one, two, two thousand, and ten that are looked at on the way.
 pub fn few_rounds(rt: &impl Print) -> io::Result<()> {
-    finish(rt, b"rounds", start(rt, b"rounds", composite(), seed(), 0)?)?;
-    whole(rt, b"rounds", composite(), seed(), 1, 1, 1)?;
-    whole(rt, b"rounds", composite(), seed(), 2, 2, 1)?;
-    whole(rt, b"rounds", composite(), seed(), 2_000, 2, 1_999)?;
-    early(rt, start(rt, b"rounds", composite(), seed(), 10)?)
+    finish(rt, b"rounds", start_by_rule(rt, b"rounds", 0)?)?;
+    for (rounds, n, step) in [(1, 1, 1), (2, 2, 1), (2_000, 2, 1_999)] {
+        by_rule(rt, b"rounds", rounds, n, step)?;
+    }
+    early(rt, start_by_rule(rt, b"rounds", 10)?)
 }
 
 // T of ten rounds, asked for before the first, before the last, after a step of no rounds, and at the end.
@@ -104,17 +101,9 @@ fn early(rt: &impl Print, t: Transformation) -> io::Result<()> {
 
 // The most rounds; one more, so many that their low 32 bits are 0 and 1, and the most that 64 bits hold.
 pub fn refusals(rt: &impl Print) -> io::Result<()> {
-    start(rt, b"rounds", composite(), seed(), 4_000_000)?;
-    whole(rt, b"rounds", composite(), seed(), 4_000_001, 1, 1_000)?;
-    whole(rt, b"rounds", composite(), seed(), 0x1_0000_0000, 1, 1_000)?;
-    whole(rt, b"rounds", composite(), seed(), 0x1_0000_0001, 1, 1_000)?;
-    whole(
-        rt,
-        b"rounds",
-        composite(),
-        seed(),
-        0xffff_ffff_ffff_ffff,
-        1,
-        1_000,
-    )
+    start_by_rule(rt, b"rounds", 4_000_000)?;
+    for rounds in [4_000_001, 0x1_0000_0000, 0x1_0000_0001, u64::MAX] {
+        by_rule(rt, b"rounds", rounds, 1, 1_000)?;
+    }
+    Ok(())
 }

@@ -8,6 +8,7 @@
 #![tactic(auto)]
 
 use std::io;
+use vectors::table::Lines;
 
 mod cases;
 mod transformed;
@@ -15,20 +16,11 @@ mod transformed;
 fn main(rt: HostRuntime) -> io::Result<()> {
     let mut space = console::large_buffer();
     let n = console::read_input(&rt, &mut space);
-    lines(&rt, &space[..n])?;
+    for line in Lines::of(&space[..n]) {
+        cases::vault(&rt, line)?;
+    }
     cases::steps(&rt)?;
     cases::random_figures(&rt)?;
     cases::few_rounds(&rt)?;
     cases::refusals(&rt)
-}
-
-// The rows of each line of a table.
-fn lines(rt: &impl Print, s: &[u8]) -> io::Result<()> {
-    let mut at: usize = 0;
-    while at < s.len() {
-        let end = vectors::table::find(s, at, b'\n');
-        cases::vault(rt, &s[at..end])?;
-        at = end + 1;
-    }
-    Ok(())
 }

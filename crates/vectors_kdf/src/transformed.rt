@@ -11,11 +11,16 @@ pub fn start(
     rounds: u64,
 ) -> io::Result<Transformation> {
     let s = Transformation::start(composite, seed, rounds);
-    let o = s.outcome;
-    let t = s.next;
-    let halves = joined(t);
-    vectors::row(rt, b"start", form, rounds as usize, o.number(), &halves)?;
-    Ok(t)
+    let halves = joined(s.next);
+    vectors::row(
+        rt,
+        b"start",
+        form,
+        rounds as usize,
+        s.outcome.number(),
+        &halves,
+    )?;
+    Ok(s.next)
 }
 
 // Up to n steps of `step` rounds, and T.
@@ -35,43 +40,35 @@ pub fn whole(
 // T, after the rounds that are done.
 pub fn finish(rt: &impl Print, form: &[u8], t: Transformation) -> io::Result<()> {
     let f = t.finish();
-    let o = f.outcome;
-    let key = f.key;
-    vectors::row(rt, b"transformed", form, t.done as usize, o.number(), &key)
+    vectors::row(
+        rt,
+        b"transformed",
+        form,
+        t.done as usize,
+        f.outcome.number(),
+        &f.key,
+    )
 }
 
 // How the halves stand after each of so many steps, and T.
 pub fn shown(rt: &impl Print, form: &[u8], t: Transformation, n: u64, step: u64) -> io::Result<()> {
     let mut x = t;
-    let mut i: u64 = 0;
-    while i < n {
-        let next = x.advance(step);
-        x = next;
-        let halves = joined(x);
-        vectors::row(rt, b"halves", form, x.done as usize, 0, &halves)?;
-        i += 1;
+    for _ in 0..n {
+        x = x.advance(step);
+        vectors::row(rt, b"halves", form, x.done as usize, 0, &joined(x))?;
     }
     finish(rt, form, x)
 }
 
 // So many steps.
 pub fn advance(t: Transformation, n: u64, step: u64) -> Transformation {
-    let mut x = t;
-    let mut i: u64 = 0;
-    while i < n {
-        let next = x.advance(step);
-        x = next;
-        i += 1;
-    }
-    x
+    (0..n).fold(t, |x, _| x.advance(step))
 }
 
 // Both halves, one behind the other.
 fn joined(t: Transformation) -> [u8; 32] {
-    let left = t.left;
-    let right = t.right;
-    let mut out = [0u8; 32];
-    slices::copy(&mut out, &left);
-    slices::copy(&mut out[16..], &right);
+    let mut out = [0; 32];
+    out[..16].copy_from_slice(&t.left);
+    out[16..].copy_from_slice(&t.right);
     out
 }
