@@ -23,19 +23,26 @@
 // tools/vectors_inner_stream.py writes the stored stdout, with libsodium and OpenSSL.
 #![tactic(auto)]
 
+use algorithm::Algorithm;
 use std::io;
 
+mod algorithm;
 mod carried;
 mod runs;
+mod shown;
 
 fn main(rt: HostRuntime) -> io::Result<()> {
-    runs::lengths(&rt, b"salsa20", 2)?;
-    runs::lengths(&rt, b"chacha20", 3)?;
-    runs::forms(&rt, b"salsa20", 2)?;
-    runs::forms(&rt, b"chacha20", 3)?;
+    let both = [Algorithm::Salsa20, Algorithm::Chacha20];
+    for a in both {
+        runs::lengths(&rt, a)?;
+    }
+    for a in both {
+        runs::forms(&rt, a)?;
+    }
     runs::others(&rt)?;
-    carried::stretches(&rt, b"salsa20", 2)?;
-    carried::stretches(&rt, b"chacha20", 3)?;
+    for a in both {
+        carried::stretches(&rt, a)?;
+    }
     carried::others(&rt)?;
-    runs::limits(&rt, 0x6b)
+    runs::limits(&rt)
 }
