@@ -1,51 +1,102 @@
 // The rows of composite keys.
 ghost use Rattle.std.specs.Prelude.{◌≤◌};
 
+use refusals::limits::PASSWORD_LIMIT;
 use std::io;
 
-// The composite key of a password and a key file, each given or absent.
+// A password, key file or pre-hash that is given, or bytes that are lent though none is.
+#[derive(Clone, Copy)]
+pub enum Credential<'a> {
+    Given(&'a [u8]),
+    Absent(&'a [u8]),
+}
+
+// No credential, and no bytes.
+const NONE: Credential<'static> = Credential::Absent(b"");
+
+impl<'a> Credential<'a> {
+    // Bytes that are a credential where it is given.
+    pub fn new(bytes: &'a [u8], given: bool) -> Self {
+        if given {
+            Credential::Given(bytes)
+        } else {
+            Credential::Absent(bytes)
+        }
+    }
+
+    // The bytes, of a credential or lent.
+    fn bytes(self) -> &'a [u8] {
+        match self {
+            Credential::Given(s) => s,
+            Credential::Absent(s) => s,
+        }
+    }
+
+    // Whether it is given.
+    fn is_given(self) -> bool {
+        matches!(self, Credential::Given(_))
+    }
+
+    // The length of the part that it gives.
+    fn part_length(self) -> usize
+        ensures { result ≤ 32 }
+    {
+        match self {
+            Credential::Given(_) => 32,
+            Credential::Absent(_) => 0,
+        }
+    }
+}
+
+// The composite key of a password and a key file.
 pub fn composite(
     rt: &impl Print,
     form: &[u8],
-    password: &[u8],
-    has_password: bool,
-    key_file: &[u8],
-    has_key_file: bool,
+    password: Credential,
+    key_file: Credential,
 ) -> io::Result<[u8; 32]> {
-    let c = keys::composite(password, has_password, key_file, has_key_file, b"", false);
-    let o = c.outcome;
-    let key = c.key;
-    let length = part_length(has_password) + part_length(has_key_file);
-    vectors::row(rt, b"composite", form, length, o.number(), &key)?;
-    Ok(key)
-}
-
-// The length of the part that a credential gives.
-fn part_length(given: bool) -> usize
-    ensures { result ≤ 32 }
-{
-    if given { 32 } else { 0 }
+    let length = password.part_length() + key_file.part_length();
+    row(rt, b"composite", form, length, password, key_file, NONE)
 }
 
 // The composite key of a pre-hash alone.
 pub fn pre_hash(rt: &impl Print, form: &[u8], pre: &[u8]) -> io::Result<()> {
-    with_pre_hash(rt, form, b"", false, b"", false, pre)
+    with_pre_hash(rt, form, NONE, NONE, pre)
 }
 
 // The answer to a pre-hash with other credentials, or alone.
 fn with_pre_hash(
     rt: &impl Print,
     form: &[u8],
-    password: &[u8],
-    has_password: bool,
-    key_file: &[u8],
-    has_key_file: bool,
+    password: Credential,
+    key_file: Credential,
     pre: &[u8],
 ) -> io::Result<()> {
-    let c = keys::composite(password, has_password, key_file, has_key_file, pre, true);
-    let o = c.outcome;
-    let key = c.key;
-    vectors::row(rt, b"pre-hash", form, pre.len(), o.number(), &key)
+    let given = Credential::Given(pre);
+    row(rt, b"pre-hash", form, pre.len(), password, key_file, given)?;
+    Ok(())
+}
+
+// The row of a composite key, and the key.
+fn row(
+    rt: &impl Print,
+    name: &[u8],
+    form: &[u8],
+    length: usize,
+    password: Credential,
+    key_file: Credential,
+    pre: Credential,
+) -> io::Result<[u8; 32]> {
+    let c = keys::composite(
+        password.bytes(),
+        password.is_given(),
+        key_file.bytes(),
+        key_file.is_given(),
+        pre.bytes(),
+        pre.is_given(),
+    );
+    vectors::row(rt, name, form, length, c.outcome.number(), &c.key)?;
+    Ok(c.key)
 }
 
 // Every kind of credential, of bytes by rule.
@@ -54,8 +105,6 @@ pub fn kinds(rt: &impl Print) -> io::Result<()> {
     vectors::pattern(&mut m);
     key_files(rt, &m)?;
     digits(rt)?;
-    digit_counts(rt)?;
-    one_other(rt)?;
     passwords(rt, vectors::first(&m, 32))?;
     pre_hashes(rt, &m)?;
     pre_hashes_with(rt, vectors::first(&m, 32))
@@ -63,161 +112,155 @@ pub fn kinds(rt: &impl Print) -> io::Result<()> {
 
 // Key files of lengths around 32.
 fn key_files(rt: &impl Print, m: &[u8]) -> io::Result<()> {
-    composite(rt, b"key-file-0", b"", false, vectors::first(m, 0), true)?;
-    composite(rt, b"key-file-31", b"", false, vectors::first(m, 31), true)?;
-    composite(rt, b"key-file-32", b"", false, vectors::first(m, 32), true)?;
-    composite(rt, b"key-file-33", b"", false, vectors::first(m, 33), true)?;
-    composite(rt, b"key-file-64", b"", false, m, true)?;
+    for (form, n) in [
+        ("key-file-0", 0),
+        ("key-file-31", 31),
+        ("key-file-32", 32),
+        ("key-file-33", 33),
+        ("key-file-64", 64),
+    ] {
+        let s = vectors::first(m, n);
+        composite(rt, form.as_bytes(), NONE, Credential::Given(s))?;
+    }
     Ok(())
 }
 
-// A key file alone, and with a password.
-fn key_file(rt: &impl Print, form: &[u8], s: &[u8]) -> io::Result<()> {
-    composite(rt, form, b"", false, s, true)?;
-    composite(rt, form, b"password", true, s, true)?;
-    Ok(())
-}
-
-// Key files of 64 hexadecimal digits, in each case.
+// Key files that are hexadecimal digits, or nearly so, each alone, and with a password.
 fn digits(rt: &impl Print) -> io::Result<()> {
-    key_file(
-        rt,
-        b"digits-upper",
-        b"00112233445566778899AABBCCDDEEFF0F1E2D3C4B5A69788796A5B4C3D2E1F0",
-    )?;
-    key_file(
-        rt,
-        b"digits-lower",
-        b"00112233445566778899aabbccddeeff0f1e2d3c4b5a69788796a5b4c3d2e1f0",
-    )?;
-    key_file(
-        rt,
-        b"digits-mixed",
-        b"00112233445566778899aAbBCcDdeEFf0f1E2d3C4b5A69788796A5b4C3d2E1f0",
-    )?;
-    key_file(
-        rt,
-        b"digits-decimal",
-        b"0011223344556677889900112233445566778899001122334455667788990011",
-    )
+    for (form, text) in DIGITS {
+        let key_file = Credential::Given(text.as_bytes());
+        composite(rt, form.as_bytes(), NONE, key_file)?;
+        composite(
+            rt,
+            form.as_bytes(),
+            Credential::Given(b"password"),
+            key_file,
+        )?;
+    }
+    Ok(())
 }
 
-// Other numbers of digits: as many as bytes are taken as they stand, one fewer than are decoded, one more, and a
-// line feed behind.
-fn digit_counts(rt: &impl Print) -> io::Result<()> {
-    key_file(rt, b"digits-32", b"00112233445566778899aabbccddeeff")?;
-    key_file(
-        rt,
-        b"digits-63",
-        b"00112233445566778899aabbccddeeff0f1e2d3c4b5a69788796a5b4c3d2e1f",
-    )?;
-    key_file(
-        rt,
-        b"digits-65",
-        b"00112233445566778899aabbccddeeff0f1e2d3c4b5a69788796a5b4c3d2e1f00",
-    )?;
-    key_file(
-        rt,
-        b"digits-64-line-feed",
-        b"00112233445566778899aabbccddeeff0f1e2d3c4b5a69788796a5b4c3d2e1f0\n",
-    )?;
-    key_file(
-        rt,
-        b"digits-63-line-feed",
-        b"00112233445566778899aabbccddeeff0f1e2d3c4b5a69788796a5b4c3d2e1f\n",
-    )
-}
-
-// 64 bytes of which one is no digit: the first, the last, and one between, each a neighbour of the digits in ASCII.
-fn one_other(rt: &impl Print) -> io::Result<()> {
-    key_file(
-        rt,
-        b"first-slash",
-        b"/0112233445566778899aabbccddeeff0f1e2d3c4b5a69788796a5b4c3d2e1f0",
-    )?;
-    key_file(
-        rt,
-        b"first-G",
-        b"G0112233445566778899aabbccddeeff0f1e2d3c4b5a69788796a5b4c3d2e1f0",
-    )?;
-    key_file(
-        rt,
-        b"middle-at",
-        b"00112233445566778899aabbccddeeff@f1e2d3c4b5a69788796a5b4c3d2e1f0",
-    )?;
-    key_file(
-        rt,
-        b"middle-g",
-        b"00112233445566778899aabbccddeeffgf1e2d3c4b5a69788796a5b4c3d2e1f0",
-    )?;
-    key_file(
-        rt,
-        b"last-colon",
-        b"00112233445566778899aabbccddeeff0f1e2d3c4b5a69788796a5b4c3d2e1f:",
-    )?;
-    key_file(
-        rt,
-        b"last-grave",
-        b"00112233445566778899aabbccddeeff0f1e2d3c4b5a69788796a5b4c3d2e1f`",
-    )
-}
+// 64 digits in each case. Other numbers of digits: as many as bytes are taken as they stand, one fewer than are
+// decoded, one more, and a line feed behind. 64 bytes of which one is no digit: the first, the last, and one between,
+// each a neighbour of the digits in ASCII.
+const DIGITS: [(&str, &str); 15] = [
+    (
+        "digits-upper",
+        "00112233445566778899AABBCCDDEEFF0F1E2D3C4B5A69788796A5B4C3D2E1F0",
+    ),
+    (
+        "digits-lower",
+        "00112233445566778899aabbccddeeff0f1e2d3c4b5a69788796a5b4c3d2e1f0",
+    ),
+    (
+        "digits-mixed",
+        "00112233445566778899aAbBCcDdeEFf0f1E2d3C4b5A69788796A5b4C3d2E1f0",
+    ),
+    (
+        "digits-decimal",
+        "0011223344556677889900112233445566778899001122334455667788990011",
+    ),
+    ("digits-32", "00112233445566778899aabbccddeeff"),
+    (
+        "digits-63",
+        "00112233445566778899aabbccddeeff0f1e2d3c4b5a69788796a5b4c3d2e1f",
+    ),
+    (
+        "digits-65",
+        "00112233445566778899aabbccddeeff0f1e2d3c4b5a69788796a5b4c3d2e1f00",
+    ),
+    (
+        "digits-64-line-feed",
+        "00112233445566778899aabbccddeeff0f1e2d3c4b5a69788796a5b4c3d2e1f0\n",
+    ),
+    (
+        "digits-63-line-feed",
+        "00112233445566778899aabbccddeeff0f1e2d3c4b5a69788796a5b4c3d2e1f\n",
+    ),
+    (
+        "first-slash",
+        "/0112233445566778899aabbccddeeff0f1e2d3c4b5a69788796a5b4c3d2e1f0",
+    ),
+    (
+        "first-G",
+        "G0112233445566778899aabbccddeeff0f1e2d3c4b5a69788796a5b4c3d2e1f0",
+    ),
+    (
+        "middle-at",
+        "00112233445566778899aabbccddeeff@f1e2d3c4b5a69788796a5b4c3d2e1f0",
+    ),
+    (
+        "middle-g",
+        "00112233445566778899aabbccddeeffgf1e2d3c4b5a69788796a5b4c3d2e1f0",
+    ),
+    (
+        "last-colon",
+        "00112233445566778899aabbccddeeff0f1e2d3c4b5a69788796a5b4c3d2e1f:",
+    ),
+    (
+        "last-grave",
+        "00112233445566778899aabbccddeeff0f1e2d3c4b5a69788796a5b4c3d2e1f`",
+    ),
+];
 
 // No credential, an empty password, and bytes of a credential that is not given.
 fn passwords(rt: &impl Print, file: &[u8]) -> io::Result<()> {
-    composite(rt, b"none", b"", false, b"", false)?;
-    composite(rt, b"none-but-bytes", b"password", false, file, false)?;
-    composite(rt, b"empty-password", b"", true, b"", false)?;
-    composite(rt, b"empty-both", b"", true, b"", true)?;
-    composite(
-        rt,
-        b"absent-password-but-bytes",
-        b"password",
-        false,
-        file,
-        true,
-    )?;
-    composite(
-        rt,
-        b"absent-key-file-but-bytes",
-        b"password",
-        true,
-        file,
-        false,
-    )?;
+    let empty = Credential::Given(b"");
+    let password = Credential::Given(b"password");
+    let password_bytes = Credential::Absent(b"password");
+    let key_file = Credential::Given(file);
+    let key_file_bytes = Credential::Absent(file);
+    for (form, password, key_file) in [
+        ("none", NONE, NONE),
+        ("none-but-bytes", password_bytes, key_file_bytes),
+        ("empty-password", empty, NONE),
+        ("empty-both", empty, empty),
+        ("absent-password-but-bytes", password_bytes, key_file),
+        ("absent-key-file-but-bytes", password, key_file_bytes),
+    ] {
+        composite(rt, form.as_bytes(), password, key_file)?;
+    }
     Ok(())
 }
 
 // A pre-hash of lengths around 32.
 fn pre_hashes(rt: &impl Print, m: &[u8]) -> io::Result<()> {
-    pre_hash(rt, b"alone", vectors::first(m, 0))?;
-    pre_hash(rt, b"alone", vectors::first(m, 31))?;
-    pre_hash(rt, b"alone", vectors::first(m, 32))?;
-    pre_hash(rt, b"alone", vectors::first(m, 33))
+    for n in [0, 31, 32, 33] {
+        pre_hash(rt, b"alone", vectors::first(m, n))?;
+    }
+    Ok(())
 }
 
 // A pre-hash with each other credential, and with bytes of those that are not given.
 fn pre_hashes_with(rt: &impl Print, pre: &[u8]) -> io::Result<()> {
-    with_pre_hash(rt, b"with-password", b"password", true, b"", false, pre)?;
-    with_pre_hash(rt, b"with-empty-password", b"", true, b"", false, pre)?;
-    with_pre_hash(rt, b"with-key-file", b"", false, pre, true, pre)?;
-    with_pre_hash(rt, b"with-both", b"password", true, pre, true, pre)?;
-    with_pre_hash(rt, b"beside-bytes", b"password", false, pre, false, pre)
-}
-
-// The limit of a password and of a key file, of a byte repeated once more than that.
-pub fn limits(rt: &impl Print, b: u8) -> io::Result<()> {
-    let over = [b; 4_194_305];
-    limits_of(rt, &over)
+    let password = Credential::Given(b"password");
+    let key_file = Credential::Given(pre);
+    for (form, password, key_file) in [
+        ("with-password", password, NONE),
+        ("with-empty-password", Credential::Given(b""), NONE),
+        ("with-key-file", NONE, key_file),
+        ("with-both", password, key_file),
+        (
+            "beside-bytes",
+            Credential::Absent(b"password"),
+            Credential::Absent(pre),
+        ),
+    ] {
+        with_pre_hash(rt, form.as_bytes(), password, key_file, pre)?;
+    }
+    Ok(())
 }
 
 // A password and a key file that are one byte too long, which is judged before a pre-hash is, and the longest ones.
-fn limits_of(rt: &impl Print, over: &[u8]) -> io::Result<()> {
-    let longest = vectors::first(over, refusals::limits::PASSWORD_LIMIT);
-    composite(rt, b"longest-password", longest, true, b"", false)?;
-    composite(rt, b"longest-both", longest, true, longest, true)?;
-    composite(rt, b"over-password", over, true, b"", false)?;
-    composite(rt, b"over-key-file", b"", false, over, true)?;
-    with_pre_hash(rt, b"with-over-password", over, true, b"", false, b"")?;
-    with_pre_hash(rt, b"with-over-key-file", b"", false, over, true, b"")?;
-    pre_hash(rt, b"over-a-file", over)
+pub fn limits(rt: &(impl Print + Alloc)) -> io::Result<()> {
+    let bytes = vec![in rt.alloc(); b'a'; PASSWORD_LIMIT + 1]?;
+    let longest = Credential::Given(vectors::first(&bytes, PASSWORD_LIMIT));
+    let over = Credential::Given(&bytes);
+    composite(rt, b"longest-password", longest, NONE)?;
+    composite(rt, b"longest-both", longest, longest)?;
+    composite(rt, b"over-password", over, NONE)?;
+    composite(rt, b"over-key-file", NONE, over)?;
+    with_pre_hash(rt, b"with-over-password", over, NONE, b"")?;
+    with_pre_hash(rt, b"with-over-key-file", NONE, over, b"")?;
+    pre_hash(rt, b"over-a-file", &bytes)
 }

@@ -9,6 +9,7 @@
 #![tactic(auto)]
 
 use std::io;
+use vectors::table::Lines;
 
 mod credentials;
 mod vault;
@@ -16,18 +17,9 @@ mod vault;
 fn main(rt: HostRuntime) -> io::Result<()> {
     let mut space = console::large_buffer();
     let n = console::read_input(&rt, &mut space);
-    lines(&rt, &space[..n])?;
-    credentials::kinds(&rt)?;
-    credentials::limits(&rt, b'a')
-}
-
-// The rows of each line of a table.
-fn lines(rt: &impl Print, s: &[u8]) -> io::Result<()> {
-    let mut at: usize = 0;
-    while at < s.len() {
-        let end = vectors::table::find(s, at, b'\n');
-        vault::keys_of(rt, &s[at..end])?;
-        at = end + 1;
+    for line in Lines::of(&space[..n]) {
+        vault::keys_of(&rt, line)?;
     }
-    Ok(())
+    credentials::kinds(&rt)?;
+    credentials::limits(&rt)
 }

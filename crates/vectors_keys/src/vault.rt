@@ -1,4 +1,5 @@
 // The rows of a vault.
+use crate::credentials::{Credential, composite, pre_hash};
 use std::io;
 use vectors::table::{array, field, is_given};
 
@@ -9,15 +10,13 @@ pub fn keys_of(rt: &impl Print, line: &[u8]) -> io::Result<()> {
     let mut key_file = [0u8; 64];
     let p = vectors::table::bytes(field(line, 1), &mut password);
     let k = vectors::table::bytes(field(line, 2), &mut key_file);
-    let key = crate::credentials::composite(
+    let key = composite(
         rt,
         name,
-        vectors::first(&password, p),
-        is_given(field(line, 1)),
-        vectors::first(&key_file, k),
-        is_given(field(line, 2)),
+        Credential::new(vectors::first(&password, p), is_given(field(line, 1))),
+        Credential::new(vectors::first(&key_file, k), is_given(field(line, 2))),
     )?;
-    crate::credentials::pre_hash(rt, name, &key)?;
+    pre_hash(rt, name, &key)?;
     if is_given(field(line, 4)) {
         transformed(rt, name, array(field(line, 3)), array(field(line, 4)))?;
     }
@@ -30,14 +29,13 @@ fn transformed(rt: &impl Print, name: &[u8], seed: [u8; 32], t: [u8; 32]) -> io:
     vectors::row(rt, b"cipher-key", name, 64, 0, &c)?;
     let base = keys::tag_base(seed, t);
     vectors::row(rt, b"tag-base", name, 65, 0, &base)?;
-    tag_key(rt, b"tag-key-0", name, 0, base)?;
-    tag_key(rt, b"tag-key-1", name, 1, base)?;
-    tag_key(rt, b"tag-key-2^32", name, 0x1_0000_0000, base)?;
-    tag_key(rt, b"tag-key-2^64-1", name, 0xffff_ffff_ffff_ffff, base)
-}
-
-// The tag key of a number.
-fn tag_key(rt: &impl Print, what: &[u8], name: &[u8], i: u64, base: [u8; 64]) -> io::Result<()> {
-    let key = keys::tag_key(i, base);
-    vectors::row(rt, what, name, 72, 0, &key)
+    for (what, i) in [
+        ("tag-key-0", 0),
+        ("tag-key-1", 1),
+        ("tag-key-2^32", 0x1_0000_0000),
+        ("tag-key-2^64-1", u64::MAX),
+    ] {
+        vectors::row(rt, what.as_bytes(), name, 72, 0, &keys::tag_key(i, base))?;
+    }
+    Ok(())
 }
