@@ -21,7 +21,7 @@
 #![tactic(auto)]
 
 use std::io;
-use vectors::table::field;
+use vectors::table::{Lines, field};
 
 mod large;
 mod steps;
@@ -30,29 +30,21 @@ mod whole;
 fn main(rt: HostRuntime) -> io::Result<()> {
     let mut space = vectors::million(0);
     let n = console::read_input(&rt, &mut space);
-    lines(&rt, &space[..n])
-}
-
-// The rows of each line of a table.
-fn lines(rt: &impl Print, s: &[u8]) -> io::Result<()> {
-    let mut at: usize = 0;
-    while at < s.len() {
-        let end = vectors::table::find(s, at, b'\n');
-        case(rt, &s[at..end])?;
-        at = end + 1;
+    for line in Lines::of(&space[..n]) {
+        case(&rt, line)?;
     }
     Ok(())
 }
 
 // The rows of a line.
-fn case(rt: &impl Print, line: &[u8]) -> io::Result<()> {
+fn case(rt: &(impl Print + Alloc), line: &[u8]) -> io::Result<()> {
     let mut space = console::large_buffer();
     let n = vectors::table::bytes(field(line, 2), &mut space);
     let f = vectors::first(&space, n);
     let t = vectors::table::array(field(line, 1));
     let given = vectors::table::number(field(line, 3)) as usize;
     if n < given {
-        return large::rows(rt, line, t, given, 0);
+        return large::rows(rt, line, t, given);
     }
     whole::rows(rt, field(line, 0), f, t)?;
     steps::rows(rt, field(line, 0), f, t, vectors::first(f, given))

@@ -1,9 +1,6 @@
 // The rows of a vault that is opened block by block.
-ghost use Rattle.std.specs.Prelude.{◌<◌, ◌+◌};
-
-use crate::whole::{filled, less};
-use aes::RoundKeys;
-use opening::{Keys, Opener, Phase, Stepped};
+use crate::whole::ROOM;
+use opening::{Opener, Phase};
 use refusals::{Outcome, Written};
 use sha256::Sha256;
 use std::io;
@@ -12,165 +9,125 @@ use std::io;
 // and the state.
 #[derive(Clone, Copy)]
 struct Run {
-    pub calls: usize,
-    pub number: u8,
-    pub total: usize,
-    pub handed: Sha256,
-    pub told: Sha256,
-    pub next: Opener,
+    calls: usize,
+    number: u8,
+    total: usize,
+    handed: Sha256,
+    told: Sha256,
+    next: Opener,
 }
 
-// A start with a file, and steps that are given another, or the same.
+// A start with a file, and steps that are given another, or the same: until the opening is closed or ended, 4,000 at
+// most.
 pub fn rows(rt: &impl Print, name: &[u8], f: &[u8], t: [u8; 32], given: &[u8]) -> io::Result<()> {
-    let next = started(rt, name, f, t)?;
-    let r = Run {
+    let mut run = Run {
         calls: 0,
         number: 0,
         total: 0,
         handed: Sha256::start(),
         told: Sha256::start(),
-        next,
+        next: started(rt, name, f, t)?,
     };
-    show(rt, name, advance(r, given), given)
+    for _ in 0..4_000 {
+        if !is_open(run.next) {
+            break;
+        }
+        run = turn(run, given);
+    }
+    show(rt, name, run, given)
 }
 
 // The state of a start, and its row.
 pub fn started(rt: &impl Print, name: &[u8], f: &[u8], t: [u8; 32]) -> io::Result<Opener> {
     let s = vault::start(f, t);
-    let outcome = s.outcome;
-    let next = s.next;
-    let keys = next.keys;
-    let base = keys.base;
-    vectors::row(
-        rt,
-        b"start",
-        name,
-        start_figure(outcome, next.at),
-        outcome.number(),
-        &base,
-    )?;
-    Ok(next)
-}
-
-// The place of the first block, or that of a refusal.
-fn start_figure(o: Outcome, first: usize) -> usize {
-    match o {
-        Outcome::Accepted => first,
+    let figure = match s.outcome {
+        Outcome::Accepted => s.next.at,
         Outcome::Refused(r) => r.place(),
-    }
+    };
+    let base = s.next.keys.base;
+    vectors::row(rt, b"start", name, figure, s.outcome.number(), &base)?;
+    Ok(s.next)
 }
 
-// Steps until the opening is closed or ended, 4,000 at most.
-fn advance(start: Run, f: &[u8]) -> Run {
-    let mut r = start;
-    let mut left: usize = turns(start.next, 4_000);
-    while 0 < left {
-        let after = turn(r, f);
-        r = after;
-        left = turns(r.next, left - 1);
-    }
-    r
-}
-
-// So many turns of an open state, else none.
-pub fn turns(o: Opener, n: usize) -> usize
-    ensures { result < n + 1 }
-{
-    let phase = o.phase;
-    match phase {
-        Phase::Open => n,
-        Phase::Closed => 0,
-        Phase::Ended => 0,
-    }
+// Whether an opening takes steps.
+pub fn is_open(o: Opener) -> bool {
+    matches!(o.phase, Phase::Open)
 }
 
 // One step.
 fn turn(r: Run, f: &[u8]) -> Run {
     let o = r.next;
-    let mut out = filled();
-    let size = words::le::u32_at(f, sum(o.at, 32)) as usize;
+    let mut out = [0xEE; ROOM];
+    let size = words::le::u32_at(f, o.at.saturating_add(32)) as usize;
     let room = room_of(r.calls % 8, size % 60_000);
-    let s = step_in(o, f, &mut out, room);
-    let a = s.answer;
-    let next = s.next;
-    let n = a.count();
-    let old_handed = r.handed;
-    let old_told = r.told;
-    let handed = old_handed.feed(vectors::first(&out, n)).next;
-    let told = tell(old_told, a, vectors::first(&out, sum(room, 16)));
+    let s = opener::step(o, f, &mut out[..room.min(ROOM)]);
+    let n = s.answer.count();
     Run {
-        calls: sum(r.calls, 1),
-        number: a.number(),
-        total: sum(r.total, n),
-        handed,
-        told,
-        next,
+        calls: r.calls.saturating_add(1),
+        number: s.answer.number(),
+        total: r.total.saturating_add(n),
+        handed: fed(r.handed, vectors::first(&out, n)),
+        told: tell(
+            r.told,
+            s.answer,
+            vectors::first(&out, room.saturating_add(16)),
+        ),
+        next: s.next,
     }
 }
 
-// A step with the front of `out` lent.
-fn step_in(o: Opener, f: &[u8], out: &mut [u8], room: usize) -> Stepped {
-    if room < out.len() {
-        return opener::step(o, f, &mut out[..room]);
-    }
-    opener::step(o, f, out)
+// A hash with more bytes.
+fn fed(h: Sha256, m: &[u8]) -> Sha256 {
+    h.feed(m).next
 }
 
 // A step's answer, fed: the number, the count as 8 bytes, and the lent bytes with the 16 behind them.
 fn tell(told: Sha256, a: Written, lent: &[u8]) -> Sha256 {
-    let number = [a.number()];
-    let count = words::le::bytes64(a.count() as u64);
-    told.feed(&number).next.feed(&count).next.feed(lent).next
+    let number = fed(told, &[a.number()]);
+    let count = fed(number, &(a.count() as u64).to_le_bytes());
+    fed(count, lent)
 }
 
 // The length lent at turn k of eight, for a block of so many bytes.
 fn room_of(k: usize, size: usize) -> usize {
-    if k < 2 {
-        return k;
+    match k {
+        0 | 1 => k,
+        2 => size.saturating_sub(17),
+        3 => size.saturating_sub(2),
+        4 => size.saturating_sub(1),
+        5 => size,
+        6 => size.saturating_add(15),
+        _ => size.saturating_add(1_000),
     }
-    if k == 2 {
-        return less(size, 17);
-    }
-    if k == 3 {
-        return less(size, 2);
-    }
-    if k == 4 {
-        return less(size, 1);
-    }
-    if k == 5 {
-        return size;
-    }
-    if k == 6 {
-        return sum(size, 15);
-    }
-    sum(size, 1_000)
 }
 
 // The rows of all steps, and of one more.
 fn show(rt: &impl Print, name: &[u8], r: Run, f: &[u8]) -> io::Result<()> {
-    let handed = r.handed;
-    let told = r.told;
-    let next = r.next;
-    let all_told = told.finish();
-    vectors::row(rt, b"steps", name, r.calls, r.number, &all_told)?;
-    let all_handed = handed.finish();
-    vectors::row(rt, b"handed", name, r.total, mark(next), &all_handed)?;
-    after(rt, name, next, f)
+    let told = r.told.finish();
+    vectors::row(rt, b"steps", name, r.calls, r.number, &told)?;
+    let handed = r.handed.finish();
+    vectors::row(rt, b"handed", name, r.total, mark(r.next), &handed)?;
+    after(rt, name, r.next, f)
 }
 
 // The row of a step with 65,536 bytes lent.
 fn after(rt: &impl Print, name: &[u8], o: Opener, f: &[u8]) -> io::Result<()> {
-    let mut out = filled();
+    let mut out = [0xEE; ROOM];
     let s = opener::step(o, f, &mut out);
-    let a = s.answer;
     let digest = state_digest(s.next, &out);
-    vectors::row(rt, b"after", name, a.count(), a.number(), &digest)
+    vectors::row(
+        rt,
+        b"after",
+        name,
+        s.answer.count(),
+        s.answer.number(),
+        &digest,
+    )
 }
 
 // A state's phase as a number.
 fn mark(o: Opener) -> u8 {
-    let phase = o.phase;
-    match phase {
+    match o.phase {
         Phase::Open => 0,
         Phase::Closed => 1,
         Phase::Ended => 2,
@@ -180,56 +137,23 @@ fn mark(o: Opener) -> u8 {
 // SHA-256 of a state and an output: the phase, three figures of 8 bytes, both pieces, key, nonce, tag base, the 60
 // words of the round keys, the output.
 fn state_digest(o: Opener, out: &[u8]) -> [u8; 32] {
-    let prev = o.prev;
-    let held = o.held;
-    let pieces = figures(o).feed(&prev).next.feed(&held).next;
-    feed_keys(pieces, o.keys).feed(out).next.finish()
-}
-
-// Key, nonce, tag base and round keys, fed.
-fn feed_keys(h: Sha256, k: Keys) -> Sha256 {
-    let key = k.key;
-    let nonce = k.nonce;
-    feed_more(h.feed(&key).next.feed(&nonce).next, k)
-}
-
-// Tag base and round keys, fed.
-fn feed_more(h: Sha256, k: Keys) -> Sha256 {
-    let base = k.base;
-    feed_words(h.feed(&base).next, k.round_keys)
-}
-
-// Round keys, fed as little-endian words.
-fn feed_words(h: Sha256, k: RoundKeys) -> Sha256 {
-    let mut fed = h;
-    let mut i: usize = 0;
-    while i < 60 {
-        let word = words::le::bytes32(k.words[i]);
-        let next = fed.feed(&word).next;
-        fed = next;
-        i += 1;
+    let k = o.keys;
+    let mut h = Sha256::start();
+    for part in [
+        &[mark(o)][..],
+        &o.number.to_le_bytes(),
+        &(o.at as u64).to_le_bytes(),
+        &(o.taken as u64).to_le_bytes(),
+        &o.prev,
+        &o.held,
+        &k.key,
+        &k.nonce,
+        &k.base,
+    ] {
+        h = fed(h, part);
     }
-    fed
-}
-
-// A state's phase and figures, fed.
-fn figures(o: Opener) -> Sha256 {
-    let phase = [mark(o)];
-    let number = words::le::bytes64(o.number);
-    let at = words::le::bytes64(o.at as u64);
-    let taken = words::le::bytes64(o.taken as u64);
-    Sha256::start()
-        .feed(&phase)
-        .next
-        .feed(&number)
-        .next
-        .feed(&at)
-        .next
-        .feed(&taken)
-        .next
-}
-
-// The sum of two numbers below 2^32.
-fn sum(a: usize, b: usize) -> usize {
-    a % 0x1_0000_0000 + b % 0x1_0000_0000
+    for word in k.round_keys.words {
+        h = fed(h, &word.to_le_bytes());
+    }
+    fed(h, out).finish()
 }

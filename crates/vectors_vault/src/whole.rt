@@ -1,21 +1,15 @@
 // The rows of a vault that is opened whole.
-ghost use Rattle.std.specs.Prelude.{◌≡◌, length};
-
 use refusals::Written;
 use std::io;
 
 // Room for any payload of a line.
-pub fn filled() -> [u8; 65_536]
-    ensures { 65536 ≡ length result }
-{
-    [0xEE; 65_536]
-}
+pub const ROOM: usize = 65_536;
 
 // Opened with ample room, with just as much as is needed, and with one byte less.
 pub fn rows(rt: &impl Print, name: &[u8], f: &[u8], t: [u8; 32]) -> io::Result<()> {
-    let n = opened(rt, b"whole", name, f, t, 65_536)?;
+    let n = opened(rt, b"whole", name, f, t, ROOM)?;
     opened(rt, b"just", name, f, t, n)?;
-    opened(rt, b"less", name, f, t, less(n, 1))?;
+    opened(rt, b"less", name, f, t, n.saturating_sub(1))?;
     Ok(())
 }
 
@@ -28,33 +22,34 @@ fn opened(
     t: [u8; 32],
     room: usize,
 ) -> io::Result<usize> {
-    let mut out = filled();
-    let w = open_in(f, t, &mut out, room);
-    let n = w.count();
-    let handed = sha256::hash(vectors::first(&out, n)).digest;
-    vectors::row(rt, kind, name, figure(w), w.number(), &handed)?;
-    let all = sha256::hash(&out).digest;
-    vectors::row(rt, b"output", name, room, 0, &all)?;
+    let mut out = [0xEE; ROOM];
+    let n = open_in(rt, kind, name, f, t, room, &mut out)?;
+    vectors::row(rt, b"output", name, room, 0, &sha256::hash(&out).digest)?;
     Ok(n)
 }
 
-// Opens a vault into the front of `out`.
-pub fn open_in(f: &[u8], t: [u8; 32], out: &mut [u8], room: usize) -> Written {
-    if room < out.len() {
-        return vault::open(f, t, &mut out[..room]);
-    }
-    vault::open(f, t, out)
+// The row of an opening with so much of an output lent; its count.
+pub fn open_in(
+    rt: &impl Print,
+    kind: &[u8],
+    name: &[u8],
+    f: &[u8],
+    t: [u8; 32],
+    room: usize,
+    out: &mut [u8],
+) -> io::Result<usize> {
+    let lent = room.min(out.len());
+    let w = vault::open(f, t, &mut out[..lent]);
+    show(rt, kind, name, w, out)?;
+    Ok(w.count())
 }
 
-// An opening's count, or its refusal's place.
-pub fn figure(w: Written) -> usize {
-    match w {
+// The row of an answer: its count, with the bytes at the front of `out` that it counts, or its refusal's place.
+pub fn show(rt: &impl Print, kind: &[u8], name: &[u8], w: Written, out: &[u8]) -> io::Result<()> {
+    let figure = match w {
         Written::Wrote(n) => n,
         Written::Refused(r) => r.place(),
-    }
-}
-
-// The difference of two numbers, 0 where the second is greater.
-pub fn less(a: usize, b: usize) -> usize {
-    if a < b { 0 } else { a - b }
+    };
+    let handed = sha256::hash(vectors::first(out, w.count())).digest;
+    vectors::row(rt, kind, name, figure, w.number(), &handed)
 }
