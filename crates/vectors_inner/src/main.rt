@@ -12,7 +12,7 @@
 #![tactic(auto)]
 
 use std::io;
-use vectors::table::field;
+use vectors::table::{Lines, field};
 
 mod reading;
 mod writing;
@@ -20,19 +20,10 @@ mod writing;
 fn main(rt: HostRuntime) -> io::Result<()> {
     let mut space = vectors::million(0);
     let n = console::read_input(&rt, &mut space);
-    lines(&rt, &space[..n])?;
-    long(&rt, 0)
-}
-
-// The rows of each line of a table.
-fn lines(rt: &impl Print, s: &[u8]) -> io::Result<()> {
-    let mut at: usize = 0;
-    while at < s.len() {
-        let end = vectors::table::find(s, at, b'\n');
-        case(rt, &s[at..end])?;
-        at = end + 1;
+    for line in Lines::of(&space[..n]) {
+        case(&rt, line)?;
     }
-    Ok(())
+    long(&rt)
 }
 
 // The rows of a line.
@@ -43,16 +34,11 @@ fn case(rt: &impl Print, line: &[u8]) -> io::Result<()> {
     writing::line(rt, line)
 }
 
-// A long payload, of a byte repeated.
-fn long(rt: &impl Print, b: u8) -> io::Result<()> {
-    let mut payload = [b; 4_194_305];
-    long_rows(rt, &mut payload)
-}
-
 // The least header in front of a document of zeros: an algorithm, an empty key, the end. It is read; and so many bytes
 // are written as a document, to an output of none.
-fn long_rows(rt: &impl Print, payload: &mut [u8]) -> io::Result<()> {
-    slices::copy(payload, b"\x01\x04\x00\x00\x00\x03\x00\x00\x00\x02");
-    reading::rows(rt, b"long", payload)?;
-    writing::row(rt, b"long", 3, b"", payload)
+fn long(rt: &(impl Print + Alloc)) -> io::Result<()> {
+    let mut payload = vec![in rt.alloc(); 0; 4_194_305]?;
+    slices::copy(&mut payload, b"\x01\x04\x00\x00\x00\x03\x00\x00\x00\x02");
+    reading::rows(rt, b"long", &payload)?;
+    writing::row(rt, b"long", 3, b"", &payload)
 }

@@ -22,29 +22,23 @@ pub fn rows(rt: &impl Print, name: &[u8], payload: &[u8]) -> io::Result<()> {
     }
 }
 
-// The rows of a payload whose header is accepted.
+// The rows of a payload whose header is accepted: of each attachment too, and of the index behind the last.
 fn accepted(rt: &impl Print, name: &[u8], payload: &[u8], h: Inner) -> io::Result<()> {
     let k = h.key;
     let key = slices::part(payload, k.start, k.length);
     vectors::row(rt, b"inner", name, h.algorithm as usize, 0, key)?;
     let document = vectors::after(payload, h.document);
-    let d = sha256::hash(document);
-    let digest = d.digest;
-    vectors::row(rt, b"document", name, h.document, 0, &digest)?;
-    attachments(rt, name, payload, h.attachments)?;
-    let behind = vectors::after(vectors::after(payload, k.start), k.length);
-    let run = vectors::first(behind, less(less(behind.len(), document.len()), 5));
-    again(rt, name, h.algorithm, key, run, document)
-}
-
-// The rows of each attachment, and of the index behind the last.
-fn attachments(rt: &impl Print, name: &[u8], payload: &[u8], count: usize) -> io::Result<()> {
-    let mut i: usize = 0;
-    while i < count {
+    hashed(rt, b"document", name, h.document, document)?;
+    for i in 0..=h.attachments {
         attachment(rt, name, payload, i)?;
-        i += 1;
     }
-    attachment(rt, name, payload, count)
+    let behind = vectors::after(vectors::after(payload, k.start), k.length);
+    let length = behind
+        .len()
+        .saturating_sub(document.len())
+        .saturating_sub(5);
+    let run = vectors::first(behind, length);
+    again(rt, name, h.algorithm, key, run, document)
 }
 
 // The rows of an attachment.
@@ -52,11 +46,9 @@ fn attachment(rt: &impl Print, name: &[u8], payload: &[u8], index: usize) -> io:
     match inner_header::find_attachment(payload, index) {
         Attachment::Refused(r) => vectors::row(rt, b"attachment", name, r.place(), r.number(), b""),
         Attachment::At(flags, p) => {
-            let byte = [flags];
-            vectors::row(rt, b"flags", name, index, 0, &byte)?;
-            let d = sha256::hash(slices::part(payload, p.start, p.length));
-            let digest = d.digest;
-            vectors::row(rt, b"attachment", name, p.start, 0, &digest)
+            vectors::row(rt, b"flags", name, index, 0, &[flags])?;
+            let content = slices::part(payload, p.start, p.length);
+            hashed(rt, b"attachment", name, p.start, content)
         }
     }
 }
@@ -73,15 +65,11 @@ fn again(
     let mut out = console::large_buffer();
     match inner_header::writer::write(algorithm, key, run, document, &mut out) {
         Written::Refused(r) => vectors::row(rt, b"written", name, r.place(), r.number(), b""),
-        Written::Wrote(n) => {
-            let d = sha256::hash(vectors::first(&out, n));
-            let digest = d.digest;
-            vectors::row(rt, b"written", name, n, 0, &digest)
-        }
+        Written::Wrote(n) => hashed(rt, b"written", name, n, vectors::first(&out, n)),
     }
 }
 
-// The difference of two numbers, 0 where the second is greater.
-fn less(a: usize, b: usize) -> usize {
-    if a < b { 0 } else { a - b }
+// The row of the SHA-256 of bytes.
+fn hashed(rt: &impl Print, what: &[u8], name: &[u8], figure: usize, s: &[u8]) -> io::Result<()> {
+    vectors::row(rt, what, name, figure, 0, &sha256::hash(s).digest)
 }

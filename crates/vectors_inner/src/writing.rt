@@ -1,6 +1,4 @@
 // The rows of a payload that is written.
-ghost use Rattle.std.specs.Prelude.{◌<◌};
-
 use refusals::Written;
 use std::io;
 use vectors::table::{bytes, field, number};
@@ -14,7 +12,7 @@ pub fn line(rt: &impl Print, line: &[u8]) -> io::Result<()> {
     let r = bytes(field(line, 4), &mut run);
     let d = bytes(field(line, 5), &mut document);
     let mut out = [0xEEu8; 64];
-    let room = room_of(number(field(line, 6)));
+    let room = (number(field(line, 6)) as usize).min(64);
     let w = inner_header::writer::write(
         (number(field(line, 2)) % 0x1_0000_0000) as u32,
         vectors::first(&key, k),
@@ -44,11 +42,4 @@ fn show(rt: &impl Print, name: &[u8], w: Written, out: &[u8; 64]) -> io::Result<
         Written::Refused(r) => vectors::row(rt, b"write", name, r.place(), r.number(), out),
         Written::Wrote(n) => vectors::row(rt, b"write", name, n, 0, out),
     }
-}
-
-// So many bytes of an output of 64.
-fn room_of(n: u64) -> usize
-    ensures { result < 65 }
-{
-    (n % 65) as usize
 }
