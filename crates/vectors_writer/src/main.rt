@@ -14,15 +14,19 @@
 ghost use Rattle.std.specs.Prelude.{◌≡◌, length};
 
 use std::io;
+use vectors::table::Lines;
 
 mod writing;
 
 fn main(rt: HostRuntime) -> io::Result<()> {
     let mut space = table();
     let n = console::read_input(&rt, &mut space);
-    let mut pattern = longest(0);
+    let mut pattern = vec![in rt.alloc(); 0; 4_194_305]?;
     vectors::pattern(&mut pattern);
-    lines(&rt, &space[..n], &pattern)
+    for line in Lines::of(&space[..n]) {
+        writing::line(&rt, line, &pattern)?;
+    }
+    Ok(())
 }
 
 // Room for all lines.
@@ -30,22 +34,4 @@ fn table() -> [u8; 262_144]
     ensures { 262144 ≡ length result }
 {
     [0; 262_144]
-}
-
-// A byte, as often as the longest payload has one.
-fn longest(b: u8) -> [u8; 4_194_305]
-    ensures { 4194305 ≡ length result }
-{
-    [b; 4_194_305]
-}
-
-// The rows of each line of a table.
-fn lines(rt: &impl Print, s: &[u8], pattern: &[u8]) -> io::Result<()> {
-    let mut at: usize = 0;
-    while at < s.len() {
-        let end = vectors::table::find(s, at, b'\n');
-        writing::line(rt, &s[at..end], pattern)?;
-        at = end + 1;
-    }
-    Ok(())
 }
