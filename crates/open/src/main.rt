@@ -13,6 +13,8 @@
 // much as the memory asks for, the vault is refused with 17.
 #![tactic(auto)]
 
+ghost use Rattle.std.specs.Prelude.{◌≤◌};
+
 use std::env::{Env, FillError};
 use std::io;
 use std::io::IsTerminal;
@@ -28,23 +30,27 @@ const MUCH: usize = 8_388_608;
 // Bytes of stack that have room for those.
 const LARGE_STACK: u32 = 83_886_080;
 
+// A vault's bytes, and the credentials that are given.
+#[derive(Clone, Copy)]
+struct Locked<'a> {
+    file: &'a [u8],
+    password: Option<&'a [u8]>,
+    key_file: Option<&'a [u8]>,
+}
+
 fn main(rt: HostRuntime) -> io::Result<()> {
-    if is_given(&rt, 1) && !is_given(&rt, 2) {
-        return open_vault(&rt, false);
+    match (1..4).take_while(|i| is_given(&rt, *i)).count() {
+        1 => open_vault(&rt, false),
+        2 => open_vault(&rt, true),
+        _ => eprintln!(rt;
+            "Use: open VAULT [KEYFILE], with the password as a line on standard input"
+        ),
     }
-    if is_given(&rt, 2) && !is_given(&rt, 3) {
-        return open_vault(&rt, true);
-    }
-    eprintln!(rt; "Use: open VAULT [KEYFILE], with the password as a line on standard input")
 }
 
 // Whether the program has an argument i.
 fn is_given(rt: &HostRuntime, i: usize) -> bool {
-    let mut none = [0u8; 0];
-    match rt.arg(i, &mut none) {
-        Err(FillError::NotPresent) => false,
-        _ => true,
-    }
+    !matches!(rt.arg(i, &mut []), Err(FillError::NotPresent))
 }
 
 // Reads the file that an argument names into `buf`; says why not where it cannot be opened.
@@ -89,34 +95,28 @@ fn open_vault(rt: &HostRuntime, has_key_file: bool) -> io::Result<()> {
 
 // Opens a vault, with the key file that the second argument names where there is one.
 fn open_file(rt: &HostRuntime, file: &[u8], has_key_file: bool) -> io::Result<()> {
-    if has_key_file {
-        let mut space = input::room();
-        return match read_named(rt, 2, &mut space)? {
-            Input::NotOpened(_) => Ok(()),
-            Input::Bytes(n) => open_typed(rt, file, slices::part(&space, 0, n), true),
-        };
+    if !has_key_file {
+        return open_typed(rt, file, None);
     }
-    open_typed(rt, file, &file[..0], false)
+    let mut space = input::room();
+    match read_named(rt, 2, &mut space)? {
+        Input::NotOpened(_) => Ok(()),
+        Input::Bytes(n) => open_typed(rt, file, Some(slices::part(&space, 0, n))),
+    }
 }
 
-// Opens a vault, with the password of standard input where there is one.
-fn open_typed(
-    rt: &HostRuntime,
-    file: &[u8],
-    key_file: &[u8],
-    has_key_file: bool,
-) -> io::Result<()> {
+// Opens a vault, with the password of standard input where there is one, and with as much memory as its key needs.
+fn open_typed<'a>(rt: &HostRuntime, file: &'a [u8], key_file: Option<&'a [u8]>) -> io::Result<()> {
     ask(rt);
     let mut space = input::room();
     let line = input::read_line(&mut rt.stdin(), &mut space);
-    open_shown(
-        rt,
+    let password = line.given.then_some(slices::part(&space, 0, line.length));
+    let locked = Locked {
         file,
-        slices::part(&space, 0, line.length),
-        line.given,
+        password,
         key_file,
-        has_key_file,
-    )
+    };
+    open_lent(rt, locked, unlocking::words_needed(file))
 }
 
 // Asks for the password where someone types it.
@@ -124,27 +124,6 @@ fn ask(rt: &HostRuntime) {
     if rt.stdin().is_terminal() {
         let _ = eprint!(rt; "Password (shown as it is typed): ");
     }
-}
-
-// Opens a vault, with as much memory as its key needs.
-fn open_shown(
-    rt: &HostRuntime,
-    file: &[u8],
-    password: &[u8],
-    has_password: bool,
-    key_file: &[u8],
-    has_key_file: bool,
-) -> io::Result<()> {
-    let words = unlocking::words_needed(file);
-    open_lent(
-        rt,
-        file,
-        password,
-        has_password,
-        key_file,
-        has_key_file,
-        words,
-    )
 }
 
 // How many words of memory the stack has room for.
@@ -160,44 +139,19 @@ fn room(rt: &HostRuntime) -> usize {
 
 // Opens a vault in so many words of memory, or in as many as the stack has room for. It calls itself, so that the
 // compiler gives the functions that hold the memory frames of their own: a vault that needs few words takes few.
-fn open_lent(
-    rt: &HostRuntime,
-    file: &[u8],
-    password: &[u8],
-    has_password: bool,
-    key_file: &[u8],
-    has_key_file: bool,
-    words: usize,
-) -> io::Result<()> {
+fn open_lent(rt: &HostRuntime, locked: Locked, words: usize) -> io::Result<()> {
     if words == 0 {
-        let mut none = [0u64; 0];
-        return open_in(
-            rt,
-            file,
-            password,
-            has_password,
-            key_file,
-            has_key_file,
-            &mut none,
-        );
+        return open_in::<0>(rt, locked);
     }
     let most = room(rt);
     if most < words {
-        open_lent(
-            rt,
-            file,
-            password,
-            has_password,
-            key_file,
-            has_key_file,
-            most,
-        )?;
+        open_lent(rt, locked, most)?;
         return tell_need(rt, words, most);
     }
     if words <= FEW {
-        return open_in_few(rt, file, password, has_password, key_file, has_key_file);
+        return open_in::<FEW>(rt, locked);
     }
-    open_in_much(rt, file, password, has_password, key_file, has_key_file)
+    open_in::<MUCH>(rt, locked)
 }
 
 // Tells how much memory a vault needs that the stack has no room for.
@@ -209,66 +163,24 @@ fn tell_need(rt: &HostRuntime, words: usize, most: usize) -> io::Result<()> {
     )
 }
 
-// Opens a vault in 4 MiB of memory.
-fn open_in_few(
-    rt: &HostRuntime,
-    file: &[u8],
-    password: &[u8],
-    has_password: bool,
-    key_file: &[u8],
-    has_key_file: bool,
-) -> io::Result<()> {
-    let mut memory = [0u64; 524_288];
-    open_in(
-        rt,
-        file,
-        password,
-        has_password,
-        key_file,
-        has_key_file,
-        &mut memory,
-    )
-}
-
-// Opens a vault in 64 MiB of memory.
-fn open_in_much(
-    rt: &HostRuntime,
-    file: &[u8],
-    password: &[u8],
-    has_password: bool,
-    key_file: &[u8],
-    has_key_file: bool,
-) -> io::Result<()> {
-    let mut memory = [0u64; 8_388_608];
-    open_in(
-        rt,
-        file,
-        password,
-        has_password,
-        key_file,
-        has_key_file,
-        &mut memory,
-    )
+// Opens a vault in WORDS words of memory.
+fn open_in<const WORDS: usize>(rt: &HostRuntime, locked: Locked) -> io::Result<()>
+    requires { WORDS ≤ 8388608 }
+{
+    let mut memory = [0u64; WORDS];
+    open_with(rt, locked, &mut memory)
 }
 
 // Opens a vault in lent memory, and writes its document or why it is refused.
-fn open_in(
-    rt: &HostRuntime,
-    file: &[u8],
-    password: &[u8],
-    has_password: bool,
-    key_file: &[u8],
-    has_key_file: bool,
-    memory: &mut [u64],
-) -> io::Result<()> {
+fn open_with(rt: &HostRuntime, locked: Locked, memory: &mut [u64]) -> io::Result<()> {
     let mut out = console::large_buffer();
     match unlocking::unlock(
         rt,
-        file,
-        password,
-        has_password,
-        key_file,
-        has_key_file,
+        locked.file,
+        locked.password.unwrap_or(&[]),
+        locked.password.is_some(),
+        locked.key_file.unwrap_or(&[]),
+        locked.key_file.is_some(),
         &mut out,
         memory,
     ) {
