@@ -7,7 +7,7 @@
 // 0 from the writer. Every index from 0 to the count is asked for, so that the last is 8. The form is the vault's name
 // or what is wrong. Standard input has a line for each case, `read FORM payload` or `write FORM algorithm key run
 // document room`. The rows of `long`, of 4,194,305 bytes, stand behind those of the lines. A payload at its limit,
-// 16,777,216 bytes, and one over it do not fit the usual stack: tests/differential runs these over the static library.
+// 16,777,216 bytes, and one over it are not among them: tests/differential runs these over the static library.
 // tools/vectors_inner.py writes stdin and stdout, with readings and hashes of its own.
 #![tactic(auto)]
 

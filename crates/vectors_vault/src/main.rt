@@ -15,8 +15,8 @@
 //   after              one step more: the count, and SHA-256 of the state behind it (crate::steps, `state_digest`)
 //   step               each step of a large file: the count, and SHA-256 of the bytes handed over; beside it such a
 //                      file has `whole`, `less` and `start`
-// A file at its limit, 16,777,216 bytes, and one over it do not fit the usual stack: tests/differential runs these over
-// the static library.
+// A file at its limit, 16,777,216 bytes, and one over it are not among them: tests/differential runs these over the
+// static library.
 // tools/vectors_vault.py writes stdin and stdout, by an opener of its own.
 #![tactic(auto)]
 

@@ -7,8 +7,8 @@
 // payload room`. The KDF is 0 for AES-KDF, 1 for Argon2d and 2 for Argon2id; its figures are three numbers: rounds, 0
 // and 0, or passes, memory and lanes. A payload that is a number has so many bytes by rule (vectors::pattern). The room
 // is what is lent, of an output of 65,536 bytes, or of a large one of 2,162,688 where it is more. A payload at its
-// limit, 16,777,216 bytes, and one over it do not fit the usual stack, nor does a file: tests/differential runs these
-// over the static library. tools/vectors_writer.py writes stdin and stdout, by a writer of its own.
+// limit, 16,777,216 bytes, and one over it are not among them: tests/differential runs these over the static library.
+// tools/vectors_writer.py writes stdin and stdout, by a writer of its own.
 #![tactic(auto)]
 
 ghost use Rattle.std.specs.Prelude.{◌≡◌, length};
