@@ -2,12 +2,13 @@
 -- Item 8: the place.
 --
 --   of_refusal, place_of, unplaced  a refusal: its number, its place, and itself without it
+--   number_of, place_of_answer      an answer: its number, and the place of its fault
 --   of_outcome, place_of_outcome    an outcome
 --   of_written, place_of_written    a writing; count_of: how many bytes were written
 --   Said, success, refused          what an answer says in these terms: a number, a place and values
 -- Not here: what each answer of another crate says (its own Answers).
 -- Assumes nothing.
-use Rattle.std.specs.Prelude.{List, ℕ, replicate}
+use Rattle.std.specs.Prelude.{List, ℕ, replicate, Result, Ok, Err}
 use Rattle.refusals.specs.declared.Refusal.{Refusal}
 use Rattle.refusals.specs.declared.Refusal.TheVariants.{TooLong, CutShort, WrongSignature, WrongVersion, WrongSize, Repeated, UnknownField, Absent, Unlisted, BrokenDictionary, TooManyRounds, HeaderHash, HeaderTag, BlockTag, TrailingBytes, WrongPadding, NoRoom, WrongCredential, OutOfSequence, TooFewRounds, FigureOutside}
 use Rattle.refusals.specs.declared.Outcome.{Outcome}
@@ -85,6 +86,14 @@ unplaced WrongCredential = WrongCredential
 unplaced OutOfSequence = OutOfSequence
 unplaced (TooFewRounds at) = TooFewRounds 0
 unplaced (FigureOutside at) = FigureOutside 0
+
+abbrev pub number_of : {T : Type 0} → Result T Refusal → ℕ
+number_of (Ok v) = 0
+number_of (Err r) = of_refusal r
+
+abbrev pub place_of_answer : {T : Type 0} → Result T Refusal → ℕ
+place_of_answer (Ok v) = 0
+place_of_answer (Err r) = place_of r
 
 abbrev pub of_outcome : Outcome → ℕ
 of_outcome Accepted = 0

@@ -162,6 +162,26 @@ impl Refusal {
     }
 }
 
+// The number of an answer: 0 is success.
+pub fn number<T: Copy>(answer: Result<T, Refusal>) -> u8
+    ensures { result ≡ numbers.number_of answer }
+{
+    match answer {
+        Ok(_) => 0,
+        Err(r) => r.number(),
+    }
+}
+
+// The place of the fault of an answer: 0 on success.
+pub fn place<T: Copy>(answer: Result<T, Refusal>) -> usize
+    ensures { result ≡ numbers.place_of_answer answer }
+{
+    match answer {
+        Ok(_) => 0,
+        Err(r) => r.place(),
+    }
+}
+
 impl Outcome {
     // The outcome's number: 0 is success.
     pub fn number(self) -> u8
