@@ -11,11 +11,9 @@
 -- in the file, so that a tag is over one stretch of it.
 -- Not here: what follows a closing block (15, 16) and room (17): crate opening.
 -- Assumes nothing.
-use Rattle.std.specs.Prelude.{Bool, cond, List, ◌++◌, ℕ, ◌+◌, ◌-◌, eqb, leb, length, take, drop}
+use Rattle.std.specs.Prelude.{Bool, cond, List, ◌++◌, ℕ, ◌+◌, ◌-◌, eqb, leb, length, take, drop, Option, Some, None}
 use Rattle.words.specs.Endian.{le, le_bytes}
 use Rattle.words.specs.Size.{int32}
-use Rattle.words.specs.declared.le.Size.{Size}
-use Rattle.words.specs.declared.le.Size.TheVariants.{Of, Negative}
 use Rattle.slices.specs.Over.{over}
 use Rattle.slices.specs.Same.{same}
 use Rattle.refusals.specs.declared.Refusal.TheVariants.{TooLong, CutShort, WrongSize, BlockTag}
@@ -43,9 +41,9 @@ unfoldable pub found : ℕ → Block
 found n = cond (eqb n 0) Closing (Data n)
 
 -- negative size (5), data present (2), tag (14)
-unfoldable pub judge_size : List ℕ → List ℕ → ℕ → ℕ → Size → Block
-judge_size base f i p Negative = Refused (WrongSize 0)
-judge_size base f i p (Of n) =
+unfoldable pub judge_size : List ℕ → List ℕ → ℕ → ℕ → Option ℕ → Block
+judge_size base f i p None = Refused (WrongSize 0)
+judge_size base f i p (Some n) =
     cond (leb n (length f - (p + 36)))
     (cond (holds base f i p n) (found n) (Refused BlockTag))
     (Refused (CutShort 0))

@@ -15,7 +15,6 @@ ghost use Rattle.block_stream.specs.Answers as answers;
 
 use hmac::Hmac;
 use refusals::Refusal;
-use words::le::Size;
 
 // What a block is found to be: a data block with its size, the closing block, or refused.
 #[derive(Clone, Copy)]
@@ -87,8 +86,8 @@ fn judge_size(f: &[u8], base: [u8; 64], number: u64, at: usize) -> Block
     ensures { result ≡ blocks.judge_size base f.now number at (int32 (le 4 f.now (at + 32))) }
 {
     match words::le::size_at(f, at + 32) {
-        Size::Negative => return Block::Refused(Refusal::WrongSize(0)),
-        Size::Of(size) => {
+        None => return Block::Refused(Refusal::WrongSize(0)),
+        Some(size) => {
             let n = size as usize;
             if f.len() - (at + 36) < n {
                 return Block::Refused(Refusal::CutShort(0));

@@ -10,7 +10,7 @@
 -- byte of an opening's is its mark: 1 of an open one, 2 of an ended, 3 of a closed (states, OpenerState).
 -- Not here: one call (Calls; exports).
 -- Assumes nothing.
-use Rattle.std.specs.Prelude.{◌≡◌, ◌≢◌, cond, List, [], ◌∷◌, ℕ, ◌+◌, ◌-◌, ◌≤◌, ◌<◌, min, leb, length, get_or, take, replicate}
+use Rattle.std.specs.Prelude.{◌≡◌, ◌≢◌, cond, List, [], ◌∷◌, ℕ, ◌+◌, ◌-◌, ◌≤◌, ◌<◌, min, leb, length, get_or, take, replicate, Ok}
 use Rattle.refusals.specs.declared.Refusal.{Refusal}
 use Rattle.refusals.specs.declared.Refusal.TheVariants.{TooLong, OutOfSequence}
 use Rattle.refusals.specs.declared.Outcome.{Outcome}
@@ -28,7 +28,6 @@ use Rattle.inner_stream.specs.Stretches.{Stretch}
 use Rattle.fields.specs.Fields.{bytes_at}
 use Rattle.outer_header.specs.Kdbx4Header.{header}
 use Rattle.outer_header.specs.declared.Header.{Header}
-use Rattle.outer_header.specs.declared.Reading.TheVariants as read
 use Rattle.opening.specs.declared.Keys.{Keys}
 use Rattle.opening.specs.declared.Phase.TheVariants.{Ended}
 use Rattle.opening.specs.Decryption.{refused, opened, given}
@@ -107,7 +106,7 @@ pub record AgreesInC (t f : List ℕ) : Type 0 where
   -- "Two such files, opened with equal keys, with equal header, hash, tag and first data blocks, have handed over the
   -- same when just those are taken"
   pub firsts : (u g : List ℕ) (k l : Keys) (p q : ℕ) → start t f ≡ begun k p → start u g ≡ begun l q
-      → (h : Header) → header f ≡ read.Header h → EqualKeys (bytes_at f h.seed) t u
+      → (h : Header) → header f ≡ Ok h → EqualKeys (bytes_at f h.seed) t u
       → take p f ≡ take q g
       → (rooms others : List ℕ) → (plain_after k f p rooms).phase ≢ Ended → (plain_after l g q others).phase ≢ Ended
       → (plain_after k f p rooms).number ≡ (plain_after l g q others).number

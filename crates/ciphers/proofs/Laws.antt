@@ -13,7 +13,7 @@ use Rattle.slices.specs.Same.{same}
 use Rattle.ciphers.specs.Ciphers.{identifier, cipher_of, nonce_length}
 use Rattle.ciphers.specs.declared.Cipher.{Cipher}
 use Rattle.ciphers.specs.declared.Cipher.TheVariants.{Aes256, ChaCha20}
-use Rattle.ciphers.specs.declared.Identified.TheVariants.{As}
+use Rattle.std.specs.Prelude.{Some}
 
 pub nonce_length-le : (c : Cipher) → nonce_length c ≤ 16
 unfolding nonce_length
@@ -25,7 +25,7 @@ unfolding identifier
 length-identifier Aes256 = refl
 length-identifier ChaCha20 = refl
 
-pub cipher_of-identifier : (c : Cipher) → cipher_of (identifier c) ≡ As c
+pub cipher_of-identifier : (c : Cipher) → cipher_of (identifier c) ≡ Some c
 unfolding cipher_of identifier same
 cipher_of-identifier Aes256 = refl
 cipher_of-identifier ChaCha20 = refl

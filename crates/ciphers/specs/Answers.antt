@@ -5,18 +5,16 @@
 --   said            the cipher's number
 -- Not here: what the answer is (Ciphers).
 -- Assumes nothing.
-use Rattle.std.specs.Prelude.{[], ◌∷◌, ℕ}
+use Rattle.std.specs.Prelude.{[], ◌∷◌, ℕ, Option, Some, None}
 use Rattle.refusals.specs.Numbers.{Said, success, refused}
 use Rattle.refusals.specs.declared.Refusal.TheVariants as refusal
 use Rattle.ciphers.specs.declared.Cipher.{Cipher}
 use Rattle.ciphers.specs.declared.Cipher.TheVariants.{Aes256, ChaCha20}
-use Rattle.ciphers.specs.declared.Identified.{Identified}
-use Rattle.ciphers.specs.declared.Identified.TheVariants.{As, Unlisted}
 
 abbrev pub cipher_number : Cipher → ℕ
 cipher_number Aes256 = 0
 cipher_number ChaCha20 = 1
 
-abbrev pub said : Identified → Said
-said (As c) = success (cipher_number c ∷ [])
-said Unlisted = refused 1 (refusal.Unlisted 0)
+abbrev pub said : Option Cipher → Said
+said (Some c) = success (cipher_number c ∷ [])
+said None = refused 1 (refusal.Unlisted 0)

@@ -5,12 +5,10 @@
 --   "nonce length: 16 for AES-256, 12 for ChaCha20"                 nonce_length
 -- Not here: what the ciphers compute (crates aes_cbc and chacha20).
 -- Assumes nothing.
-use Rattle.std.specs.Prelude.{cond, List, [], ◌∷◌, ℕ}
+use Rattle.std.specs.Prelude.{cond, List, [], ◌∷◌, ℕ, Option, Some, None}
 use Rattle.slices.specs.Same.{same}
 use Rattle.ciphers.specs.declared.Cipher.{Cipher}
 use Rattle.ciphers.specs.declared.Cipher.TheVariants.{Aes256, ChaCha20}
-use Rattle.ciphers.specs.declared.Identified.{Identified}
-use Rattle.ciphers.specs.declared.Identified.TheVariants.{As, Unlisted}
 
 unfoldable pub identifier : Cipher → List ℕ
 identifier Aes256 =
@@ -18,8 +16,8 @@ identifier Aes256 =
 identifier ChaCha20 =
     0xD6 ∷ 0x03 ∷ 0x8A ∷ 0x2B ∷ 0x8B ∷ 0x6F ∷ 0x4C ∷ 0xB5 ∷ 0xA5 ∷ 0x24 ∷ 0x33 ∷ 0x9A ∷ 0x31 ∷ 0xDB ∷ 0xB5 ∷ 0x9A ∷ []
 
-unfoldable pub cipher_of : List ℕ → Identified
-cipher_of id = cond (same id (identifier Aes256)) (As Aes256) (cond (same id (identifier ChaCha20)) (As ChaCha20) Unlisted)
+unfoldable pub cipher_of : List ℕ → Option Cipher
+cipher_of id = cond (same id (identifier Aes256)) (Some Aes256) (cond (same id (identifier ChaCha20)) (Some ChaCha20) None)
 
 unfoldable pub nonce_length : Cipher → ℕ
 nonce_length Aes256 = 16

@@ -19,27 +19,20 @@ pub enum Cipher {
     ChaCha20,
 }
 
-// What an identifier names.
-#[derive(Clone, Copy)]
-pub enum Identified {
-    As(Cipher),
-    Unlisted,
-}
-
-// The cipher of an identifier.
-pub fn identify(id: &[u8]) -> Identified
+// The cipher of an identifier: none where it is not listed.
+pub fn identify(id: &[u8]) -> Option<Cipher>
     ensures value { result ≡ ciphers.cipher_of id.now }
     ensures result_value { answers.said result ≡ answers.said (ciphers.cipher_of id.now) }
 {
     let aes = Aes256::ID;
     if slices::same(id, &aes) {
-        return Identified::As(Cipher::Aes256);
+        return Some(Cipher::Aes256);
     }
     let chacha = ChaCha20::ID;
     if slices::same(id, &chacha) {
-        return Identified::As(Cipher::ChaCha20);
+        return Some(Cipher::ChaCha20);
     }
-    Identified::Unlisted
+    None
 }
 
 impl Cipher {
@@ -74,25 +67,23 @@ impl Cipher {
     }
 }
 
-impl Identified {
-    // The number of the answer: 0, or 9.
-    pub fn number(self) -> u8
-        ensures { result ≡ (answers.said self).number }
-    {
-        match self {
-            Identified::As(_) => 0,
-            Identified::Unlisted => Refusal::Unlisted(0).number(),
-        }
+// The number of what an identifier names: 0, or 9.
+pub fn identified_number(cipher: Option<Cipher>) -> u8
+    ensures { result ≡ (answers.said cipher).number }
+{
+    match cipher {
+        Some(_) => 0,
+        None => Refusal::Unlisted(0).number(),
     }
+}
 
-    // The cipher's number: 0 where there is none.
-    pub fn value(self) -> u8
-        ensures { result ∷ [] ≡ (answers.said self).values }
-    {
-        match self {
-            Identified::As(c) => c.number(),
-            Identified::Unlisted => 0,
-        }
+// The number of the cipher that an identifier names: 0 where there is none.
+pub fn identified_value(cipher: Option<Cipher>) -> u8
+    ensures { result ∷ [] ≡ (answers.said cipher).values }
+{
+    match cipher {
+        Some(c) => c.number(),
+        None => 0,
     }
 }
 

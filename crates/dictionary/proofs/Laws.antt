@@ -12,6 +12,7 @@
 --   Table    the numbers of a table's places
 --   Judge    the verdict, when some names are known
 --   Verdict  the verdict is the judgement that knows no name
+--   Told      what is found has the number and the place that it says
 pub mod Entry
 pub mod Walk
 pub mod Enough
@@ -25,3 +26,4 @@ pub mod Judge
 pub mod Verdict
 -- a verdict's place lies within the dictionary
 pub mod Within
+pub mod Told

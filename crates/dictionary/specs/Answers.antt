@@ -6,28 +6,27 @@
 --   said_found      a name: 1, the type, the value's start and length; zeros where a sound dictionary has no such name
 -- Not here: what the answers are (Dictionary).
 -- Assumes nothing.
-use Rattle.std.specs.Prelude.{[], ◌∷◌, replicate}
+use Rattle.std.specs.Prelude.{[], ◌∷◌, replicate, ℕ, Option, Some, None, Result, Ok, Err}
 use Rattle.refusals.specs.Numbers.{Said, success, refused}
 use Rattle.refusals.specs.declared.Refusal.TheVariants.{BrokenDictionary, Repeated}
-use Rattle.dictionary.specs.declared.Verdict.{Verdict}
-use Rattle.dictionary.specs.declared.Verdict.TheVariants as verdict
-use Rattle.dictionary.specs.declared.Entry.{Entry}
-use Rattle.dictionary.specs.declared.Entry.TheVariants as entry
-use Rattle.dictionary.specs.declared.Found.{Found}
-use Rattle.dictionary.specs.declared.Found.TheVariants as found
+use Rattle.dictionary.specs.declared.Fault.TheVariants as fault
+use Rattle.dictionary.specs.declared.Fault.{Fault}
+use Rattle.dictionary.specs.declared.Value.{Value}
+use Rattle.refusals.specs.declared.Refusal.{Refusal}
+use Rattle.dictionary.specs.declared.Item.{Item}
 
-abbrev pub said_verdict : Verdict → Said
-said_verdict verdict.Sound = success []
-said_verdict (verdict.Broken at) = refused 0 (BrokenDictionary at)
-said_verdict (verdict.Repeated at) = refused 0 (Repeated at)
+abbrev pub said_verdict : Result Unit Fault → Said
+said_verdict (Ok tt) = success []
+said_verdict (Err (fault.Broken at)) = refused 0 (BrokenDictionary at)
+said_verdict (Err (fault.Repeated at)) = refused 0 (Repeated at)
 
-abbrev pub said_entry : Entry → Said
-said_entry (entry.Item i) =
+abbrev pub said_entry : Result (Option Item) ℕ → Said
+said_entry (Ok (Some i)) =
     success (1 ∷ i.kind ∷ i.name ∷ i.name_len ∷ i.value ∷ i.value_len ∷ [])
-said_entry entry.End = success (replicate 6 0)
-said_entry (entry.Broken at) = refused 6 (BrokenDictionary at)
+said_entry (Ok None) = success (replicate 6 0)
+said_entry (Err at) = refused 6 (BrokenDictionary at)
 
-abbrev pub said_found : Found → Said
-said_found (found.At kind start n) = success (1 ∷ kind ∷ start ∷ n ∷ [])
-said_found found.Absent = success (replicate 4 0)
-said_found (found.Refused r) = refused 4 r
+abbrev pub said_found : Result (Option Value) Refusal → Said
+said_found (Ok (Some v)) = success (1 ∷ v.kind ∷ v.start ∷ v.length ∷ [])
+said_found (Ok None) = success (replicate 4 0)
+said_found (Err r) = refused 4 r

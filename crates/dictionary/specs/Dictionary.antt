@@ -19,20 +19,16 @@
 -- (proofs, Laws.Enough).
 -- Not here: what a KDF dictionary needs, and the one that is written (crate kdf_dictionary).
 -- Assumes nothing.
-use Rattle.std.specs.Prelude.{Bool, true, false, cond, List, [], ◌∷◌, ◌++◌, ℕ, zero, suc, ◌+◌, ◌-◌, eqb, leb, ltb, length, get_or, take, drop}
+use Rattle.std.specs.Prelude.{Bool, true, false, cond, List, [], ◌∷◌, ◌++◌, ℕ, zero, suc, ◌+◌, ◌-◌, eqb, leb, ltb, length, get_or, take, drop, Option, Some, None, Result, Ok, Err}
 use Rattle.words.specs.Endian.{le, le_bytes}
 use Rattle.words.specs.Size.{int32}
-use Rattle.words.specs.declared.le.Size.{Size}
-use Rattle.words.specs.declared.le.Size.TheVariants.{Of, Negative}
 use Rattle.slices.specs.Same.{same}
 use Rattle.refusals.specs.declared.Refusal.TheVariants.{BrokenDictionary, Repeated}
-use Rattle.dictionary.specs.declared.Verdict.{Verdict}
-use Rattle.dictionary.specs.declared.Verdict.TheVariants as verdict_is
+use Rattle.dictionary.specs.declared.Fault.TheVariants as fault
+use Rattle.dictionary.specs.declared.Fault.{Fault}
+use Rattle.dictionary.specs.declared.Value.{Value}
+use Rattle.refusals.specs.declared.Refusal.{Refusal}
 use Rattle.dictionary.specs.declared.Item.{Item}
-use Rattle.dictionary.specs.declared.Entry.{Entry}
-use Rattle.dictionary.specs.declared.Entry.TheVariants as entry
-use Rattle.dictionary.specs.declared.Found.{Found}
-use Rattle.dictionary.specs.declared.Found.TheVariants as found
 
 -- "04 UInt32, 05 UInt64, 08 Bool (one byte), 0C Int32, 0D Int64, 18 string, 42 bytes"
 unfoldable pub size_fits_type : ℕ → ℕ → Bool
@@ -51,25 +47,25 @@ item_at s at n v =
     record { kind = get_or s at 0; name = at + 5; name_len = n; value = at + 5 + n + 4; value_len = v }
 
 -- value size not negative, value present, size fitting
-unfoldable pub value_at : List ℕ → ℕ → ℕ → Size → Entry
-value_at s at n Negative = entry.Broken at
-value_at s at n (Of v) =
-    cond (ltb (length s - (at + 5 + n + 4)) v) (entry.Broken at)
-    (cond (size_fits_type (get_or s at 0) v) (entry.Item (item_at s at n v)) (entry.Broken at))
+unfoldable pub value_at : List ℕ → ℕ → ℕ → Option ℕ → Result (Option Item) ℕ
+value_at s at n None = Err at
+value_at s at n (Some v) =
+    cond (ltb (length s - (at + 5 + n + 4)) v) (Err at)
+    (cond (size_fits_type (get_or s at 0) v) (Ok (Some (item_at s at n v))) (Err at))
 
 -- name size not negative, the name and the four bytes of the value size present
-unfoldable pub name_at : List ℕ → ℕ → Size → Entry
-name_at s at Negative = entry.Broken at
-name_at s at (Of n) =
-    cond (ltb (length s - (at + 5)) (n + 4)) (entry.Broken at) (value_at s at n (int32 (le 4 s (at + 5 + n))))
+unfoldable pub name_at : List ℕ → ℕ → Option ℕ → Result (Option Item) ℕ
+name_at s at None = Err at
+name_at s at (Some n) =
+    cond (ltb (length s - (at + 5)) (n + 4)) (Err at) (value_at s at n (int32 (le 4 s (at + 5 + n))))
 
 -- what stands at a place: the last byte is 0, and an item begins with its type and four bytes of the name size; a
 -- missing last byte and bytes behind it are no item's fault
-unfoldable pub entry_at : List ℕ → ℕ → Entry
+unfoldable pub entry_at : List ℕ → ℕ → Result (Option Item) ℕ
 entry_at s at =
-    cond (leb (length s) at) (entry.Broken 0)
-    (cond (eqb (get_or s at 0) 0) (cond (eqb (length s - at) 1) entry.End (entry.Broken 0))
-    (cond (ltb (length s - at) 5) (entry.Broken at) (name_at s at (int32 (le 4 s (at + 1))))))
+    cond (leb (length s) at) (Err 0)
+    (cond (eqb (get_or s at 0) 0) (cond (eqb (length s - at) 1) (Ok None) (Err 0))
+    (cond (ltb (length s - at) 5) (Err at) (name_at s at (int32 (le 4 s (at + 1))))))
 
 abbrev pub name_of : List ℕ → Item → List ℕ
 name_of s i = take i.name_len (drop i.name s)
@@ -82,10 +78,10 @@ abbrev pub next : Item → ℕ
 next i = i.value + i.value_len
 
 -- some item from `at` on and before `stop` has the name, among the first k
-unfoldable pub named_in : List ℕ → List ℕ → Entry → (ℕ → Bool) → Bool
-named_in s name (entry.Item i) rest = cond (same (name_of s i) name) true (rest (next i))
-named_in s name entry.End rest = false
-named_in s name (entry.Broken b) rest = false
+unfoldable pub named_in : List ℕ → List ℕ → Result (Option Item) ℕ → (ℕ → Bool) → Bool
+named_in s name (Ok (Some i)) rest = cond (same (name_of s i) name) true (rest (next i))
+named_in s name (Ok None) rest = false
+named_in s name (Err b) rest = false
 
 unfoldable pub named : ℕ → List ℕ → ℕ → ℕ → List ℕ → Bool
 named zero s at stop name = false
@@ -93,47 +89,47 @@ named (suc k) s at stop name =
     cond (leb stop at) false (named_in s name (entry_at s at) (λ (n : ℕ). named k s n stop name))
 
 -- the items from `at` on, the first k of them: the first fault is given
-unfoldable pub walk_in : List ℕ → ℕ → Entry → (ℕ → Verdict) → Verdict
-walk_in s at (entry.Item i) rest =
-    cond (named (length s) s 2 at (name_of s i)) (verdict_is.Repeated at) (rest (next i))
-walk_in s at entry.End rest = verdict_is.Sound
-walk_in s at (entry.Broken b) rest = verdict_is.Broken b
+unfoldable pub walk_in : List ℕ → ℕ → Result (Option Item) ℕ → (ℕ → Result Unit Fault) → Result Unit Fault
+walk_in s at (Ok (Some i)) rest =
+    cond (named (length s) s 2 at (name_of s i)) (Err (fault.Repeated at)) (rest (next i))
+walk_in s at (Ok None) rest = Ok tt
+walk_in s at (Err b) rest = Err (fault.Broken b)
 
-unfoldable pub walk : ℕ → List ℕ → ℕ → Verdict
-walk zero s at = verdict_is.Broken 0
+unfoldable pub walk : ℕ → List ℕ → ℕ → Result Unit Fault
+walk zero s at = Err (fault.Broken 0)
 walk (suc k) s at = walk_in s at (entry_at s at) (walk k s)
 
 -- the version's high byte is the second one
-unfoldable pub verdict : List ℕ → Verdict
+unfoldable pub verdict : List ℕ → Result Unit Fault
 verdict s =
-    cond (ltb (length s) 3) (verdict_is.Broken 0)
-    (cond (eqb (get_or s 1 0) 1) (walk (length s) s 2) (verdict_is.Broken 0))
+    cond (ltb (length s) 3) (Err (fault.Broken 0))
+    (cond (eqb (get_or s 1 0) 1) (walk (length s) s 2) (Err (fault.Broken 0)))
 
 -- the item of the name from `at` on, among the first k
-unfoldable pub search_in : List ℕ → List ℕ → Entry → (ℕ → Found) → Found
-search_in s name (entry.Item i) rest =
-    cond (same (name_of s i) name) (found.At i.kind i.value i.value_len) (rest (next i))
-search_in s name entry.End rest = found.Absent
-search_in s name (entry.Broken b) rest = found.Absent
+unfoldable pub search_in : List ℕ → List ℕ → Result (Option Item) ℕ → (ℕ → Result (Option Value) Refusal) → Result (Option Value) Refusal
+search_in s name (Ok (Some i)) rest =
+    cond (same (name_of s i) name) (Ok (Some (record { kind = i.kind; start = i.value; length = i.value_len }))) (rest (next i))
+search_in s name (Ok None) rest = Ok None
+search_in s name (Err b) rest = Ok None
 
-unfoldable pub search_from : ℕ → List ℕ → ℕ → List ℕ → Found
-search_from zero s at name = found.Absent
+unfoldable pub search_from : ℕ → List ℕ → ℕ → List ℕ → Result (Option Value) Refusal
+search_from zero s at name = Ok None
 search_from (suc k) s at name = search_in s name (entry_at s at) (λ (n : ℕ). search_from k s n name)
 
 -- the verdict first, then the item of the name
-unfoldable pub find_in : Verdict → List ℕ → List ℕ → Found
-find_in verdict_is.Sound s name = search_from (length s) s 2 name
-find_in (verdict_is.Broken at) s name = found.Refused (BrokenDictionary at)
-find_in (verdict_is.Repeated at) s name = found.Refused (Repeated at)
+unfoldable pub find_in : Result Unit Fault → List ℕ → List ℕ → Result (Option Value) Refusal
+find_in (Ok tt) s name = search_from (length s) s 2 name
+find_in (Err (fault.Broken at)) s name = Err (BrokenDictionary at)
+find_in (Err (fault.Repeated at)) s name = Err (Repeated at)
 
-unfoldable pub find : List ℕ → List ℕ → Found
+unfoldable pub find : List ℕ → List ℕ → Result (Option Value) Refusal
 find s name = find_in (verdict s) s name
 
 -- the stretch of the dictionary that is shown: nothing but where the name is found
-unfoldable pub shown : List ℕ → Found → List ℕ
-shown s (found.At kind start n) = take n (drop start s)
-shown s found.Absent = []
-shown s (found.Refused r) = []
+unfoldable pub shown : List ℕ → Result (Option Value) Refusal → List ℕ
+shown s (Ok (Some v)) = take v.length (drop v.start s)
+shown s (Ok None) = []
+shown s (Err r) = []
 
 unfoldable pub lookup : List ℕ → List ℕ → List ℕ
 lookup s name = shown s (find s name)

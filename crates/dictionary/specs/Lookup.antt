@@ -7,12 +7,12 @@
 --   "shows that stretch of the dictionary itself, never of the name"        Looked
 -- Not here: what a name is found as, and the bytes that are shown (Dictionary).
 -- Assumes nothing.
-use Rattle.std.specs.Prelude.{◌≡◌, Bool, true, false, List, ℕ}
+use Rattle.std.specs.Prelude.{◌≡◌, Bool, true, false, List, ℕ, Option, Some, None, Result, Ok, Err}
 use Rattle.std.specs.Borrow.{Bor}
 use Rattle.slices.specs.Stretch.{behind}
 use Rattle.refusals.specs.Numbers.{of_refusal, place_of}
-use Rattle.dictionary.specs.declared.Found.{Found}
-use Rattle.dictionary.specs.declared.Found.TheVariants as found
+use Rattle.dictionary.specs.declared.Value.{Value}
+use Rattle.refusals.specs.declared.Refusal.{Refusal}
 use Rattle.dictionary.specs.Dictionary.{find, lookup}
 
 -- document 01's number, the place of a refusal, whether the name is there, its value's type and where that begins
@@ -24,10 +24,10 @@ pub record Told : Type 0 where
   pub start : ℕ
 
 -- zero wherever nothing is to tell
-unfoldable pub told : Found → Told
-told (found.At kind start n) = record { number = 0; place = 0; found = true; kind = kind; start = start }
-told found.Absent = record { number = 0; place = 0; found = false; kind = 0; start = 0 }
-told (found.Refused r) = record { number = of_refusal r; place = place_of r; found = false; kind = 0; start = 0 }
+unfoldable pub told : Result (Option Value) Refusal → Told
+told (Ok (Some v)) = record { number = 0; place = 0; found = true; kind = v.kind; start = v.start }
+told (Ok None) = record { number = 0; place = 0; found = false; kind = 0; start = 0 }
+told (Err r) = record { number = of_refusal r; place = place_of r; found = false; kind = 0; start = 0 }
 
 -- r is shown of a name in the dictionary d, with these numbers beside it: a stretch of d, or nothing, at d's front
 pub record Looked (d name r : Bor (List ℕ)) (number place : ℕ) (found : Bool) (kind : ℕ) : Type 0 where

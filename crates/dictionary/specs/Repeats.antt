@@ -7,35 +7,34 @@
 -- Laws.Judge: the verdict is the judgement that knows no name).
 -- Not here: the verdict itself (Dictionary); a name's number (Order).
 -- Assumes nothing.
-use Rattle.std.specs.Prelude.{◌≡◌, cond, List, [], ◌∷◌, ℕ, zero, suc, ◌≤◌, ◌<◌, leb, length}
-use Rattle.dictionary.specs.declared.Verdict.{Verdict}
-use Rattle.dictionary.specs.declared.Verdict.TheVariants as verdict_is
-use Rattle.dictionary.specs.declared.Entry.{Entry}
-use Rattle.dictionary.specs.declared.Entry.TheVariants as entry
+use Rattle.std.specs.Prelude.{◌≡◌, cond, List, [], ◌∷◌, ℕ, zero, suc, ◌≤◌, ◌<◌, leb, length, Option, Some, None, Result, Ok, Err}
+use Rattle.dictionary.specs.declared.Fault.TheVariants as fault
+use Rattle.dictionary.specs.declared.Fault.{Fault}
+use Rattle.dictionary.specs.declared.Item.{Item}
 use Rattle.dictionary.specs.declared.repeats.Batch.{Batch}
 use Rattle.dictionary.specs.declared.repeats.Batch.TheVariants as batch
 use Rattle.dictionary.specs.Dictionary.{entry_at, name_of, next}
 use Rattle.dictionary.specs.Order.{key_of, held, among, Rising}
 
 -- .. where the item at `stop` is known to be repeated
-unfoldable pub judge_in : ℕ → List ℕ → List ℕ → ℕ → Entry → (List ℕ → ℕ → Verdict) → Verdict
-judge_in stop s ks at (entry.Item i) rest =
-    cond (leb stop at) (verdict_is.Repeated stop)
-    (cond (among (key_of (name_of s i)) ks) (verdict_is.Repeated at) (rest (key_of (name_of s i) ∷ ks) (next i)))
-judge_in stop s ks at entry.End rest = verdict_is.Sound
-judge_in stop s ks at (entry.Broken b) rest = verdict_is.Broken b
+unfoldable pub judge_in : ℕ → List ℕ → List ℕ → ℕ → Result (Option Item) ℕ → (List ℕ → ℕ → Result Unit Fault) → Result Unit Fault
+judge_in stop s ks at (Ok (Some i)) rest =
+    cond (leb stop at) (Err (fault.Repeated stop))
+    (cond (among (key_of (name_of s i)) ks) (Err (fault.Repeated at)) (rest (key_of (name_of s i) ∷ ks) (next i)))
+judge_in stop s ks at (Ok None) rest = Ok tt
+judge_in stop s ks at (Err b) rest = Err (fault.Broken b)
 
 -- the items from `at` on, the first n of them, where items of the numbers ks were met
-unfoldable pub judge : ℕ → ℕ → List ℕ → List ℕ → ℕ → Verdict
-judge stop zero s ks at = verdict_is.Broken 0
+unfoldable pub judge : ℕ → ℕ → List ℕ → List ℕ → ℕ → Result Unit Fault
+judge stop zero s ks at = Err (fault.Broken 0)
 judge stop (suc n) s ks at = judge_in stop s ks at (entry_at s at) (judge stop n s)
 
 -- the first item from `at` on, and before `stop`, whose name is one of given numbers; `stop` where there is none
-unfoldable pub met_in : ℕ → List ℕ → List ℕ → ℕ → Entry → (ℕ → ℕ) → ℕ
-met_in stop s ks at (entry.Item i) rest =
+unfoldable pub met_in : ℕ → List ℕ → List ℕ → ℕ → Result (Option Item) ℕ → (ℕ → ℕ) → ℕ
+met_in stop s ks at (Ok (Some i)) rest =
     cond (leb stop at) stop (cond (among (key_of (name_of s i)) ks) at (rest (next i)))
-met_in stop s ks at entry.End rest = stop
-met_in stop s ks at (entry.Broken b) rest = stop
+met_in stop s ks at (Ok None) rest = stop
+met_in stop s ks at (Err b) rest = stop
 
 unfoldable pub met : ℕ → ℕ → List ℕ → List ℕ → ℕ → ℕ
 met stop zero s ks at = stop

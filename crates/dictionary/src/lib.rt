@@ -18,7 +18,6 @@ ghost use Rattle.dictionary.specs.Lookup.{Looked};
 
 use refusals::Refusal;
 use repeats::Batch;
-use words::le::Size;
 
 mod repeats;
 mod table;
@@ -33,144 +32,94 @@ pub struct Item {
     pub value_len: usize,
 }
 
-// What stands at a place of a dictionary.
+// What is wrong with a dictionary: its form, or that a name is repeated; with the place of the item at fault, 0 where it
+// is no item's.
 #[derive(Clone, Copy)]
-pub enum Entry {
-    Item(Item),
-    End,
-    Broken(usize),
-}
-
-// What a check comes to: sound; or the first fault, with the place of the item at fault, 0 where it is no item's.
-#[derive(Clone, Copy)]
-pub enum Verdict {
-    Sound,
+pub enum Fault {
     Broken(usize),
     Repeated(usize),
 }
 
-// What a name is found as: the type and place of its value, absent, or that the dictionary is refused.
+// The value of a name: its type, and its place.
 #[derive(Clone, Copy)]
-pub enum Found {
-    At {
-        kind: u8,
-        start: usize,
-        length: usize,
-    },
-    Absent,
-    Refused(Refusal),
+pub struct Value {
+    pub kind: u8,
+    pub start: usize,
+    pub length: usize,
 }
 
-impl Entry {
-    // The number of the answer: 0, or 10.
-    pub fn number(self) -> u8
-        ensures { result ≡ (answers.said_entry self).number }
-    {
-        match self {
-            Entry::Item(_) => 0,
-            Entry::End => 0,
-            Entry::Broken(at) => Refusal::BrokenDictionary(at).number(),
-        }
-    }
-
-    // The place of a refusal: 0 on success.
-    pub fn place(self) -> usize
-        ensures { result ≡ (answers.said_entry self).place }
-    {
-        match self {
-            Entry::Item(_) => 0,
-            Entry::End => 0,
-            Entry::Broken(at) => at,
-        }
-    }
-
-    // 1, the type, start and length of the name and of the value; zeros at the last byte, and on a refusal.
-    pub fn values(self) -> [u64; 6]
-        ensures { result ≡ (answers.said_entry self).values }
-    {
-        match self {
-            Entry::Item(i) => [
-                1,
-                i.kind as u64,
-                i.name as u64,
-                i.name_len as u64,
-                i.value as u64,
-                i.value_len as u64,
-            ],
-            Entry::End => [0u64; 6],
-            Entry::Broken(_) => [0u64; 6],
-        }
+// The number of what stands at a place: 0, or 10.
+pub fn entry_number(entry: Result<Option<Item>, usize>) -> u8
+    ensures { result ≡ (answers.said_entry entry).number }
+{
+    match entry {
+        Ok(Some(_)) => 0,
+        Ok(None) => 0,
+        Err(at) => Refusal::BrokenDictionary(at).number(),
     }
 }
 
-impl Verdict {
-    // The number of the answer: 0, 10 or 6.
-    pub fn number(self) -> u8
-        ensures { result ≡ (answers.said_verdict self).number }
-    {
-        match self {
-            Verdict::Sound => 0,
-            Verdict::Broken(at) => Refusal::BrokenDictionary(at).number(),
-            Verdict::Repeated(at) => Refusal::Repeated(at).number(),
-        }
-    }
-
-    // The place of a refusal: 0 on success.
-    pub fn place(self) -> usize
-        ensures { result ≡ (answers.said_verdict self).place }
-    {
-        match self {
-            Verdict::Sound => 0,
-            Verdict::Broken(at) => at,
-            Verdict::Repeated(at) => at,
-        }
+// The place of the fault of what stands at a place: 0 where there is none.
+pub fn entry_place(entry: Result<Option<Item>, usize>) -> usize
+    ensures { result ≡ (answers.said_entry entry).place }
+{
+    match entry {
+        Ok(Some(_)) => 0,
+        Ok(None) => 0,
+        Err(at) => at,
     }
 }
 
-impl Found {
-    // The number of the answer: 0 of a sound dictionary.
-    pub fn number(self) -> u8
-        ensures { result ≡ (answers.said_found self).number }
-    {
-        match self {
-            Found::At {
-                kind: _,
-                start: _,
-                length: _,
-            } => 0,
-            Found::Absent => 0,
-            Found::Refused(r) => r.number(),
-        }
+// The values of what stands at a place: 1, the type, start and length of the name and of the value; zeros at the last
+// byte, and on a refusal.
+pub fn entry_values(entry: Result<Option<Item>, usize>) -> [u64; 6]
+    ensures { result ≡ (answers.said_entry entry).values }
+{
+    match entry {
+        Ok(Some(i)) => [
+            1,
+            i.kind as u64,
+            i.name as u64,
+            i.name_len as u64,
+            i.value as u64,
+            i.value_len as u64,
+        ],
+        Ok(None) => [0u64; 6],
+        Err(_) => [0u64; 6],
     }
+}
 
-    // The place of a refusal: 0 on success.
-    pub fn place(self) -> usize
-        ensures { result ≡ (answers.said_found self).place }
-    {
-        match self {
-            Found::At {
-                kind: _,
-                start: _,
-                length: _,
-            } => 0,
-            Found::Absent => 0,
-            Found::Refused(r) => r.place(),
-        }
+// The number of a check's answer: 0, 10 or 6.
+pub fn verdict_number(verdict: Result<(), Fault>) -> u8
+    ensures { result ≡ (answers.said_verdict verdict).number }
+{
+    match verdict {
+        Ok(()) => 0,
+        Err(Fault::Broken(at)) => Refusal::BrokenDictionary(at).number(),
+        Err(Fault::Repeated(at)) => Refusal::Repeated(at).number(),
     }
+}
 
-    // 1, the type, the value's start and length; zeros where there is no such name, and on a refusal.
-    pub fn values(self) -> [u64; 4]
-        ensures { result ≡ (answers.said_found self).values }
-    {
-        match self {
-            Found::At {
-                kind,
-                start,
-                length,
-            } => [1, kind as u64, start as u64, length as u64],
-            Found::Absent => [0u64; 4],
-            Found::Refused(_) => [0u64; 4],
-        }
+// The place of the fault of a check's answer: 0 where there is none.
+pub fn verdict_place(verdict: Result<(), Fault>) -> usize
+    ensures { result ≡ (answers.said_verdict verdict).place }
+{
+    match verdict {
+        Ok(()) => 0,
+        Err(Fault::Broken(at)) => at,
+        Err(Fault::Repeated(at)) => at,
+    }
+}
+
+// The values of what a name is found as: 1, the type, the value's start and length; zeros where there is no such name,
+// and on a refusal.
+pub fn found_values(found: Result<Option<Value>, Refusal>) -> [u64; 4]
+    ensures { result ≡ (answers.said_found found).values }
+{
+    match found {
+        Ok(Some(v)) => [1, v.kind as u64, v.start as u64, v.length as u64],
+        Ok(None) => [0u64; 4],
+        Err(_) => [0u64; 4],
     }
 }
 
@@ -200,72 +149,64 @@ fn size_fits(kind: u8, n: usize) -> bool
 }
 
 // The item at a place whose name, of n bytes, and value size are present.
-fn value_at(s: &[u8], at: usize, n: usize) -> Entry
+#[tactic(auto, unfolding(crate::specs::Dictionary::value_at))]
+fn value_at(s: &[u8], at: usize, n: usize) -> Result<Option<Item>, usize>
     requires { at + 5 + n + 4 ≤ length s.now }
     ensures { result ≡ dictionary.value_at s.now at n (int32 (le 4 s.now (at + 5 + n))) }
 {
     let name = at + 5;
     let value = name + n + 4;
-    match words::le::size_at(s, name + n) {
-        Size::Negative => Entry::Broken(at),
-        Size::Of(v) => {
-            let len = v as usize;
-            if s.len() - value < len {
-                return Entry::Broken(at);
-            }
-            if size_fits(s[at], len) {
-                return Entry::Item(Item {
-                    kind: s[at],
-                    name,
-                    name_len: n,
-                    value,
-                    value_len: len,
-                });
-            }
-            Entry::Broken(at)
-        }
+    let value_len = words::le::size_at(s, name + n).ok_or(at)? as usize;
+    if s.len() - value < value_len {
+        return Err(at);
     }
+    if !size_fits(s[at], value_len) {
+        return Err(at);
+    }
+    Ok(Some(Item {
+        kind: s[at],
+        name,
+        name_len: n,
+        value,
+        value_len,
+    }))
 }
 
-// What stands at a place: an item, the last byte, or a fault.
-pub fn entry_at(s: &[u8], at: usize) -> Entry
+// The item at a place, none at the last byte; or the place of the item at fault, 0 where it is no item's.
+#[tactic(auto, unfolding(crate::specs::Dictionary::entry_at, crate::specs::Dictionary::name_at))]
+pub fn entry_at(s: &[u8], at: usize) -> Result<Option<Item>, usize>
     ensures value { result ≡ dictionary.entry_at s.now at }
     ensures result_value { answers.said_entry result ≡ answers.said_entry (dictionary.entry_at s.now at) }
 {
     if s.len() <= at {
-        return Entry::Broken(0);
+        return Err(0);
     }
     if s[at] == 0 {
         if s.len() - at == 1 {
-            return Entry::End;
+            return Ok(None);
         }
-        return Entry::Broken(0);
+        return Err(0);
     }
     if s.len() - at < 5 {
-        return Entry::Broken(at);
+        return Err(at);
     }
-    match words::le::size_at(s, at + 1) {
-        Size::Negative => return Entry::Broken(at),
-        Size::Of(v) => {
-            let n = v as usize;
-            if s.len() - (at + 5) < n + 4 {
-                return Entry::Broken(at);
-            }
-            return value_at(s, at, n);
-        }
+    let n = words::le::size_at(s, at + 1).ok_or(at)? as usize;
+    if s.len() - (at + 5) < n + 4 {
+        return Err(at);
     }
+    value_at(s, at, n)
 }
 
 // Whether a dictionary is sound, or its first fault. Few items fit a small table; many are judged in batches.
-pub fn check(s: &[u8]) -> Verdict
+pub fn check(s: &[u8]) -> Result<(), Fault>
     ensures value { result ≡ dictionary.verdict s.now }
     ensures result_value { answers.said_verdict result ≡ answers.said_verdict (dictionary.verdict s.now) }
 {
     if s.len() < 3 {
-        return Verdict::Broken(0);
+        return Err(Fault::Broken(0));
     }
     if s[1] != 1 {
-        return Verdict::Broken(0);
+        return Err(Fault::Broken(0));
     }
     let mut t = [0u32; 64];
     match repeats::fill(s, 2, s.len(), &mut t) {
@@ -277,41 +218,39 @@ pub fn check(s: &[u8]) -> Verdict
 // The item of a name in a dictionary that `check` accepts, for a caller that has checked it and looks up several names.
 // Nothing is judged here: of any other dictionary it answers the first item of the name that stands before a broken
 // one, or absent. `find` refuses such a dictionary.
-pub fn search_sound(s: &[u8], name: &[u8]) -> Found
+pub fn search_sound(s: &[u8], name: &[u8]) -> Result<Option<Value>, Refusal>
     ensures value { result ≡ dictionary.search_from (length s.now) s.now 2 name.now }
     ensures result_value { answers.said_found result ≡ answers.said_found (dictionary.search_from (length s.now) s.now 2 name.now) }
 {
     let mut at: usize = 2;
-    let mut left = s.len();
-    while 0 < left {
+    for _ in 0..s.len() {
         match entry_at(s, at) {
-            Entry::End => return Found::Absent,
-            Entry::Broken(_) => return Found::Absent,
-            Entry::Item(i) => {
+            Ok(None) => return Ok(None),
+            Err(_) => return Ok(None),
+            Ok(Some(i)) => {
                 if slices::same(slices::part(s, i.name, i.name_len), name) {
-                    return Found::At {
+                    return Ok(Some(Value {
                         kind: i.kind,
                         start: i.value,
                         length: i.value_len,
-                    };
+                    }));
                 }
                 at = i.value + i.value_len;
             }
         }
-        left -= 1;
     }
-    Found::Absent
+    Ok(None)
 }
 
 // Where the value of a name stands, that there is none, or why the dictionary is refused.
-pub fn find(s: &[u8], name: &[u8]) -> Found
+pub fn find(s: &[u8], name: &[u8]) -> Result<Option<Value>, Refusal>
     ensures value { result ≡ dictionary.find s.now name.now }
     ensures result_value { answers.said_found result ≡ answers.said_found (dictionary.find s.now name.now) }
 {
     match check(s) {
-        Verdict::Sound => return search_sound(s, name),
-        Verdict::Broken(at) => return Found::Refused(Refusal::BrokenDictionary(at)),
-        Verdict::Repeated(at) => return Found::Refused(Refusal::Repeated(at)),
+        Ok(()) => return search_sound(s, name),
+        Err(Fault::Broken(at)) => return Err(Refusal::BrokenDictionary(at)),
+        Err(Fault::Repeated(at)) => return Err(Refusal::Repeated(at)),
     }
 }
 
@@ -333,17 +272,13 @@ pub fn lookup<'d>(
     *found = false;
     *kind = 0;
     match find(d, name) {
-        Found::At {
-            kind: k,
-            start,
-            length,
-        } => {
+        Ok(Some(v)) => {
             *found = true;
-            *kind = k;
-            return slices::stretch(d, start, length);
+            *kind = v.kind;
+            return slices::stretch(d, v.start, v.length);
         }
-        Found::Absent => return slices::stretch(d, 0, 0),
-        Found::Refused(r) => {
+        Ok(None) => return slices::stretch(d, 0, 0),
+        Err(r) => {
             *number = r.number();
             *place = r.place();
             return slices::stretch(d, 0, 0);

@@ -6,13 +6,13 @@ ghost use Rattle.std.specs.Prelude.{◌≡◌, [], ◌≤◌, ◌<◌, length};
 ghost use Rattle.dictionary.specs.Order as order;
 ghost use Rattle.dictionary.specs.Repeats as repeats;
 
-use crate::{Entry, Verdict, entry_at, table};
+use crate::{Fault, entry_at, table};
 
 // What a batch comes to: the judgement of all items from its start on, or how many are in the table and where the rest
 // begins.
 #[derive(Clone, Copy)]
 pub enum Batch {
-    Done(Verdict),
+    Done(Result<(), Fault>),
     Full { held: usize, next: usize },
 }
 
@@ -24,14 +24,13 @@ pub(crate) fn fill(s: &[u8], from: usize, stop: usize, t: &mut [u32]) -> Batch
 {
     let mut at = from;
     let mut n: usize = 0;
-    let mut left = s.len();
-    while 0 < left {
+    for _ in 0..s.len() {
         match entry_at(s, at) {
-            Entry::End => return Batch::Done(Verdict::Sound),
-            Entry::Broken(b) => return Batch::Done(Verdict::Broken(b)),
-            Entry::Item(i) => {
+            Ok(None) => return Batch::Done(Ok(())),
+            Err(b) => return Batch::Done(Err(Fault::Broken(b))),
+            Ok(Some(i)) => {
                 if stop <= at {
-                    return Batch::Done(Verdict::Repeated(stop));
+                    return Batch::Done(Err(Fault::Repeated(stop)));
                 }
                 if n == t.len() {
                     return Batch::Full { held: n, next: at };
@@ -41,15 +40,14 @@ pub(crate) fn fill(s: &[u8], from: usize, stop: usize, t: &mut [u32]) -> Batch
                     return Batch::Full { held: n, next: at };
                 }
                 if table::add(s, from, t, n, place as u32) {
-                    return Batch::Done(Verdict::Repeated(at));
+                    return Batch::Done(Err(Fault::Repeated(at)));
                 }
                 n += 1;
                 at = i.value + i.value_len;
             }
         }
-        left -= 1;
     }
-    Batch::Done(Verdict::Broken(0))
+    Batch::Done(Err(Fault::Broken(0)))
 }
 
 // The first item from a place on, and before `stop`, whose name is in a table of n; `stop` where there is none.
@@ -61,12 +59,11 @@ fn met(s: &[u8], base: usize, t: &[u32], n: usize, from: usize, stop: usize) -> 
         (order.held s.now base n t.now) from }
 {
     let mut at = from;
-    let mut left = s.len();
-    while 0 < left {
+    for _ in 0..s.len() {
         match entry_at(s, at) {
-            Entry::End => return stop,
-            Entry::Broken(_) => return stop,
-            Entry::Item(i) => {
+            Ok(None) => return stop,
+            Err(_) => return stop,
+            Ok(Some(i)) => {
                 if stop <= at {
                     return stop;
                 }
@@ -76,21 +73,19 @@ fn met(s: &[u8], base: usize, t: &[u32], n: usize, from: usize, stop: usize) -> 
                 }
             }
         }
-        left -= 1;
     }
     stop
 }
 
 // The judgement of all items, batch after batch.
-pub(crate) fn judge(s: &[u8]) -> Verdict
+pub(crate) fn judge(s: &[u8]) -> Result<(), Fault>
     requires { 2 ≤ length s.now }
     ensures { result ≡ repeats.judge (length s.now) (length s.now) s.now [] 2 }
 {
     let mut t = [0u32; 4096];
     let mut at: usize = 2;
     let mut stop = s.len();
-    let mut left = s.len();
-    while 0 < left {
+    for _ in 0..s.len() {
         match fill(s, at, stop, &mut t) {
             Batch::Done(o) => return o,
             Batch::Full { held, next } => {
@@ -98,7 +93,6 @@ pub(crate) fn judge(s: &[u8]) -> Verdict
                 at = next;
             }
         }
-        left -= 1;
     }
-    Verdict::Broken(0)
+    Err(Fault::Broken(0))
 }

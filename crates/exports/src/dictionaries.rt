@@ -12,8 +12,8 @@ pub extern "C" fn kdbx4_dictionary_check(dictionary: &[u8], place: &mut usize) -
     ensures place_after { place.new ≡ (answers.said_verdict (kdbx4.verdict dictionary.now)).place }
 {
     let answer = dictionary::check(dictionary);
-    *place = answer.place();
-    answer.number()
+    *place = dictionary::verdict_place(answer);
+    dictionary::verdict_number(answer)
 }
 
 // What a name is found as: 1, the type, the value's start and length; zeros where a sound dictionary has no such name.
@@ -30,11 +30,11 @@ pub extern "C" fn kdbx4_dictionary_find(
     ensures found_after { found.new ≡ lent.values_or (answers.said_found (kdbx4.find dictionary.now name.now)) found.old }
 {
     let answer = dictionary::find(dictionary, name);
-    let number = answer.number();
-    *place = answer.place();
+    let number = refusals::number(answer);
+    *place = refusals::place(answer);
     if number != 0 {
         return number;
     }
-    *found = answer.values();
+    *found = dictionary::found_values(answer);
     number
 }

@@ -18,12 +18,12 @@ pub extern "C" fn kdbx4_header(file: &[u8], figures: &mut [u64; 17], place: &mut
     ensures figures_after { figures.new ≡ lent.values_or (answers.said (kdbx4.header file.now)) figures.old }
 {
     let answer = outer_header::read(file);
-    let number = answer.number();
-    *place = answer.place();
+    let number = refusals::number(answer);
+    *place = refusals::place(answer);
     if number != 0 {
         return number;
     }
-    *figures = answer.values();
+    *figures = outer_header::header_values(answer);
     number
 }
 

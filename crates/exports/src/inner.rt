@@ -19,12 +19,12 @@ pub extern "C" fn kdbx4_inner(payload: &[u8], figures: &mut [u64; 5], place: &mu
     ensures figures_after { figures.new ≡ lent.values_or (answers.said_read (kdbx4.inner payload.now)) figures.old }
 {
     let answer = inner_header::read_header(payload);
-    let number = answer.number();
-    *place = answer.place();
+    let number = refusals::number(answer);
+    *place = refusals::place(answer);
     if number != 0 {
         return number;
     }
-    *figures = answer.values();
+    *figures = inner_header::header_values(answer);
     number
 }
 
@@ -41,12 +41,12 @@ pub extern "C" fn kdbx4_attachment(
     ensures figures_after { figures.new ≡ lent.values_or (answers.said_attachment (kdbx4.attachment payload.now index)) figures.old }
 {
     let answer = inner_header::find_attachment(payload, index);
-    let number = answer.number();
-    *place = answer.place();
+    let number = refusals::number(answer);
+    *place = refusals::place(answer);
     if number != 0 {
         return number;
     }
-    *figures = answer.values();
+    *figures = inner_header::attachment_values(answer);
     number
 }
 

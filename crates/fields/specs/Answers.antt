@@ -4,11 +4,11 @@
 --   said    the field's ID, the start and the length of its value
 -- Not here: what the answer is (Fields).
 -- Assumes nothing.
-use Rattle.std.specs.Prelude.{[], ◌∷◌}
+use Rattle.std.specs.Prelude.{[], ◌∷◌, ℕ, Result, Ok, Err}
 use Rattle.refusals.specs.Numbers.{Said, success, refused}
-use Rattle.fields.specs.declared.Field.{Field}
-use Rattle.fields.specs.declared.Field.TheVariants as field
+use Rattle.refusals.specs.declared.Refusal.{Refusal}
+use Rattle.fields.specs.declared.Place.{Place}
 
-abbrev pub said : Field → Said
-said (field.At id p) = success (id ∷ p.start ∷ p.length ∷ [])
-said (field.Refused r) = refused 3 r
+abbrev pub said : Result (ℕ × Place) Refusal → Said
+said (Ok (id, p)) = success (id ∷ p.start ∷ p.length ∷ [])
+said (Err r) = refused 3 r

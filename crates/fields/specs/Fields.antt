@@ -9,17 +9,14 @@
 --    the field"                                                            field_at, value_at, begin
 -- Places of values: bytes_at, end_of; of an absent field: nowhere, given.
 -- Assumes nothing.
-use Rattle.std.specs.Prelude.{Bool, true, cond, not, List, ◌∷◌, ◌++◌, ℕ, ◌+◌, ◌-◌, eqb, leb, length, get_or, take, drop}
+use Rattle.std.specs.Prelude.{Bool, true, cond, not, List, ◌∷◌, ◌++◌, ℕ, ◌+◌, ◌-◌, eqb, leb, length, get_or, take, drop, Option, Some, None, Result, Ok, Err}
 use Rattle.words.specs.Endian.{le, le_bytes}
 use Rattle.words.specs.Size.{int32}
-use Rattle.words.specs.declared.le.Size.{Size}
-use Rattle.words.specs.declared.le.Size.TheVariants.{Of, Negative}
 use Rattle.refusals.specs.declared.Refusal.TheVariants.{CutShort, WrongSize, Repeated, UnknownField}
 use Rattle.fields.specs.declared.Place.{Place}
 use Rattle.fields.specs.declared.SizeRule.{SizeRule}
 use Rattle.fields.specs.declared.SizeRule.TheVariants.{Any, Exactly, AtLeast}
-use Rattle.fields.specs.declared.Field.{Field}
-use Rattle.fields.specs.declared.Field.TheVariants as field
+use Rattle.refusals.specs.declared.Refusal.{Refusal}
 
 -- the bytes of a place
 abbrev pub bytes_at : List ℕ → Place → List ℕ
@@ -46,23 +43,23 @@ fits (Exactly k) n = eqb n k
 fits (AtLeast k) n = leb k n
 
 -- size not negative and right for a fixed field (5), value present (2)
-unfoldable pub value_at : SizeRule → List ℕ → ℕ → Size → Field
-value_at rule s at Negative = field.Refused (WrongSize at)
-value_at rule s at (Of n) =
+unfoldable pub value_at : SizeRule → List ℕ → ℕ → Option ℕ → Result (ℕ × Place) Refusal
+value_at rule s at None = Err (WrongSize at)
+value_at rule s at (Some n) =
     cond (fits rule n)
     (cond (leb n (length s - (at + 5)))
-    (field.At (get_or s at 0) (record { start = at + 5; length = n }))
-    (field.Refused (CutShort (length s))))
-    (field.Refused (WrongSize at))
+    (Ok (get_or s at 0, record { start = at + 5; length = n }))
+    (Err (CutShort (length s))))
+    (Err (WrongSize at))
 
 -- five bytes present (2), ID listed (7), not repeated (6)
-unfoldable pub field_at : Bool → Bool → SizeRule → List ℕ → ℕ → Field
+unfoldable pub field_at : Bool → Bool → SizeRule → List ℕ → ℕ → Result (ℕ × Place) Refusal
 field_at listed repeated rule s at =
     cond (leb (at + 5) (length s))
     (cond listed
-    (cond repeated (field.Refused (Repeated at)) (value_at rule s at (int32 (le 4 s (at + 1)))))
-    (field.Refused (UnknownField at)))
-    (field.Refused (CutShort (length s)))
+    (cond repeated (Err (Repeated at)) (value_at rule s at (int32 (le 4 s (at + 1)))))
+    (Err (UnknownField at)))
+    (Err (CutShort (length s)))
 
 -- the bytes of a field that is written
 unfoldable pub field_bytes : ℕ → List ℕ → List ℕ

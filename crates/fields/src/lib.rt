@@ -16,7 +16,6 @@ ghost use Rattle.fields.specs.Fields as fields;
 ghost use Rattle.fields.specs.Answers as answers;
 
 use refusals::Refusal;
-use words::le::Size;
 
 // A stretch of a file or a payload.
 #[derive(Clone, Copy)]
@@ -33,42 +32,13 @@ pub enum SizeRule {
     AtLeast(u32),
 }
 
-// The field at a place: its ID and its value's place, or why it is refused.
-#[derive(Clone, Copy)]
-pub enum Field {
-    At(u8, Place),
-    Refused(Refusal),
-}
-
-impl Field {
-    // The number of the answer: 0 is success.
-    pub fn number(self) -> u8
-        ensures { result ≡ (answers.said self).number }
-    {
-        match self {
-            Field::At(_, _) => 0,
-            Field::Refused(r) => r.number(),
-        }
-    }
-
-    // The place of a refusal: 0 on success.
-    pub fn place(self) -> usize
-        ensures { result ≡ (answers.said self).place }
-    {
-        match self {
-            Field::At(_, _) => 0,
-            Field::Refused(r) => r.place(),
-        }
-    }
-
-    // The ID, and the start and the length of the value: zeros on a refusal.
-    pub fn values(self) -> [u64; 3]
-        ensures { result ≡ (answers.said self).values }
-    {
-        match self {
-            Field::At(id, p) => [id as u64, p.start as u64, p.length as u64],
-            Field::Refused(_) => [0u64; 3],
-        }
+// The values of a field's answer: the ID, and the start and the length of its value; zeros on a refusal.
+pub fn field_values(field: Result<(u8, Place), Refusal>) -> [u64; 3]
+    ensures { result ≡ (answers.said field).values }
+{
+    match field {
+        Ok((id, p)) => [id as u64, p.start as u64, p.length as u64],
+        Err(_) => [0u64; 3],
     }
 }
 
@@ -84,45 +54,46 @@ fn fits(rule: SizeRule, n: u32) -> bool
 }
 
 // A field's value, behind its five bytes.
-fn value_at(s: &[u8], at: usize, rule: SizeRule) -> Field
+#[tactic(auto, unfolding(crate::specs::Fields::value_at))]
+fn value_at(s: &[u8], at: usize, rule: SizeRule) -> Result<(u8, Place), Refusal>
     requires { at + 5 ≤ length s.now }
     ensures { result ≡ fields.value_at rule s.now at (int32 (le 4 s.now (at + 1))) }
 {
-    match words::le::size_at(s, at + 1) {
-        Size::Negative => return Field::Refused(Refusal::WrongSize(at)),
-        Size::Of(n) => {
-            if fits(rule, n) {
-                let length = n as usize;
-                if length <= s.len() - (at + 5) {
-                    let start = at + 5;
-                    return Field::At(s[at], Place { start, length });
-                }
-                return Field::Refused(Refusal::CutShort(s.len()));
-            }
-            return Field::Refused(Refusal::WrongSize(at));
-        }
+    let n = words::le::size_at(s, at + 1).ok_or(Refusal::WrongSize(at))?;
+    if !fits(rule, n) {
+        return Err(Refusal::WrongSize(at));
     }
+    let start = at + 5;
+    let length = n as usize;
+    if s.len() - start < length {
+        return Err(Refusal::CutShort(s.len()));
+    }
+    Ok((s[at], Place { start, length }))
 }
 
-// The field at a place. Whether its ID is listed, whether it came before, and the rule of its size are told by the
-// caller.
-pub fn field_at(s: &[u8], at: usize, listed: bool, repeated: bool, rule: SizeRule) -> Field
+// The field at a place: its ID and its value's place, or why it is refused. Whether its ID is listed, whether it came
+// before, and the rule of its size are told by the caller.
+#[tactic(auto, unfolding(crate::specs::Fields::field_at))]
+pub fn field_at(
+    s: &[u8],
+    at: usize,
+    listed: bool,
+    repeated: bool,
+    rule: SizeRule,
+) -> Result<(u8, Place), Refusal>
     ensures value { result ≡ fields.field_at listed repeated rule s.now at }
     ensures result_value { answers.said result ≡ answers.said (fields.field_at listed repeated rule s.now at) }
 {
-    if s.len() < 5 {
-        return Field::Refused(Refusal::CutShort(s.len()));
+    if s.len() < 5 || s.len() - 5 < at {
+        return Err(Refusal::CutShort(s.len()));
     }
-    if at <= s.len() - 5 {
-        if listed {
-            if repeated {
-                return Field::Refused(Refusal::Repeated(at));
-            }
-            return value_at(s, at, rule);
-        }
-        return Field::Refused(Refusal::UnknownField(at));
+    if !listed {
+        return Err(Refusal::UnknownField(at));
     }
-    Field::Refused(Refusal::CutShort(s.len()))
+    if repeated {
+        return Err(Refusal::Repeated(at));
+    }
+    value_at(s, at, rule)
 }
 
 // Where the field of a value begins: five bytes before it.

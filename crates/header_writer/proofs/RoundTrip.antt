@@ -30,20 +30,17 @@ use Rattle.fields.specs.Fields.{bytes_at, fits, field_bytes, nowhere}
 use Rattle.fields.specs.declared.Place.{Place}
 use Rattle.ciphers.specs.Ciphers.{identifier, cipher_of, nonce_length}
 use Rattle.ciphers.specs.declared.Cipher.{Cipher}
-use Rattle.ciphers.specs.declared.Identified.TheVariants as identified
+use Rattle.std.specs.Prelude.{Some, Ok, Err, Result}
 use Rattle.ciphers.proofs.Laws.{cipher_of-identifier, nonce_length-le}
 use Rattle.kdf_dictionary.specs.Kdf.{kdf_bytes, kdf_length, IsWritable, written_kdf}
 use Rattle.kdf_dictionary.specs.declared.writer.Figures.{Figures}
 use Rattle.kdf_dictionary.specs.declared.writer.Figures.TheVariants as figures
 use Rattle.dictionary.specs.Dictionary.{verdict}
-use Rattle.dictionary.specs.declared.Verdict.{Verdict}
-use Rattle.dictionary.specs.declared.Verdict.TheVariants as verdict_is
+use Rattle.dictionary.specs.declared.Fault.TheVariants as fault
+use Rattle.dictionary.specs.declared.Fault.{Fault}
 use Rattle.kdf_dictionary.specs.KdfDictionary.{kdf_of}
-use Rattle.kdf_dictionary.specs.declared.Reading.TheVariants as kdf
 use Rattle.kdf_dictionary.proofs.Laws.ReadBack.{kdf_of-kdf_bytes, kdf_of_few, salt_at, kdf_bytes_salt_is}
 use Rattle.outer_header.specs.declared.walk.Fields.{Fields}
-use Rattle.outer_header.specs.declared.walk.Walked.TheVariants as walked
-use Rattle.outer_header.specs.declared.Reading.TheVariants as read
 use Rattle.outer_header.specs.Kdbx4Header as header
 use Rattle.outer_header.specs.Kdbx4Header.{
   listed,
@@ -60,7 +57,6 @@ use Rattle.outer_header.specs.Kdbx4Header.{
 use Rattle.outer_header.proofs.Laws.Accepted.{accepts-header, accepts-judged, header-judged, refuses_judged}
 use Rattle.header_writer.specs.Written.{no_compression, header_bytes, header_length, custom_in, custom_verdict, checked}
 use Rattle.header_writer.specs.ReadsBack.{kdf_place, rounds_item, custom_place, salt_place, written_header, ReadsBack}
-use Rattle.header_writer.specs.declared.Checked.TheVariants.{As}
 use Rattle.header_writer.proofs.Laws.Layout.{length-header_bytes}
 use Rattle.header_writer.proofs.Laws.CheckedLaws.{checked_as}
 use Rattle.header_writer.proofs.Laws.Lies.{bytes_at_lies, le_lies, walk_lies, walk_end}
@@ -158,7 +154,7 @@ module _ (minor : ℕ) (c : Cipher) (seed nonce : List ℕ) (fig : Figures) (sal
       (k - 1 - 1 - 1 - 1) (89 + nonce_length c + kl) (omega arith) (λ e. omega arith) (omega arith)
 
   walk_none : eqb (length custom) 0 ≡ true
-      → walk (length s) no_fields s 12 ≡ walked.Ended (fields_with c kl nowhere) (header_length c fig (length salt) (length custom))
+      → walk (length s) no_fields s 12 ≡ Ok (fields_with c kl nowhere, header_length c fig (length salt) (length custom))
   walk_none t =
       let e = header_length_none c fig (length salt) (length custom) t in
       let l = at_least in
@@ -168,8 +164,7 @@ module _ (minor : ℕ) (c : Cipher) (seed nonce : List ℕ) (fig : Figures) (sal
 
   walk_custom : length s ≤ file_limit → eqb (length custom) 0 ≡ false
       → walk (length s) no_fields s 12
-      ≡ walked.Ended (fields_with c kl (record { start = 94 + nonce_length c + kl; length = length custom }))
-      (header_length c fig (length salt) (length custom))
+      ≡ Ok (fields_with c kl (record { start = 94 + nonce_length c + kl; length = length custom }), header_length c fig (length salt) (length custom))
   unfolding listed seen put size_rule fits file_limit
   walk_custom h t =
       let e = header_length_custom c fig (length salt) (length custom) t in
@@ -183,7 +178,7 @@ module _ (minor : ℕ) (c : Cipher) (seed nonce : List ℕ) (fig : Figures) (sal
 
   walk_written : length s ≤ file_limit
       → walk (length s) no_fields s 12
-      ≡ walked.Ended (fields_with c kl (custom_place c fig (length salt) (length custom))) (header_length c fig (length salt) (length custom))
+      ≡ Ok (fields_with c kl (custom_place c fig (length salt) (length custom)), header_length c fig (length salt) (length custom))
   walk_written h =
       by_bool (eqb (length custom) 0) (λ t. rw t (walk_none t)) (λ t. rw t (walk_custom h t))
 
@@ -194,11 +189,11 @@ module _ (minor : ℕ) (c : Cipher) (seed nonce : List ℕ) (fig : Figures) (sal
       (λ t. rw t (no_bytes custom (eqb-true (length custom) 0 t)))
       (λ t. rw t (bytes_at_lies s (89 + nonce_length c + kl) 12 custom _ (w.custom_lies t)))
 
-  custom_sound : (v : Verdict) → custom_in v ≡ outcome.Accepted → v ≡ verdict_is.Sound
+  custom_sound : (v : Result Unit Fault) → custom_in v ≡ outcome.Accepted → v ≡ (Ok tt)
   unfolding custom_in
-  custom_sound verdict_is.Sound e = refl
-  custom_sound (verdict_is.Broken at) e = let z : ◌≡◌ {A = ℕ} 0 1 = cc in absurd (omega arith)
-  custom_sound (verdict_is.Repeated at) e = let z : ◌≡◌ {A = ℕ} 0 1 = cc in absurd (omega arith)
+  custom_sound (Ok tt) e = refl
+  custom_sound (Err (fault.Broken at)) e = let z : ◌≡◌ {A = ℕ} 0 1 = cc in absurd (omega arith)
+  custom_sound (Err (fault.Repeated at)) e = let z : ◌≡◌ {A = ℕ} 0 1 = cc in absurd (omega arith)
 
   custom_judged : custom_verdict custom ≡ outcome.Accepted
       → custom_of s (custom_place c fig (length salt) (length custom)) ≡ outcome.Accepted
@@ -223,15 +218,15 @@ module _ (minor : ℕ) (c : Cipher) (seed nonce : List ℕ) (fig : Figures) (sal
   unfolding le le_bytes field_bytes
   no_compression_lem = le_lies s 33 3 no_compression _ w.compression_lies 4 0 (omega arith)
 
-  cipher_known : cipher_of (bytes_at s (record { start = 17; length = 16 })) ≡ identified.As c
+  cipher_known : cipher_of (bytes_at s (record { start = 17; length = 16 })) ≡ Some c
   cipher_known =
       let i : bytes_at s (record { start = 17; length = 16 }) ≡ identifier c =
       bytes_at_lies s 12 2 (identifier c) _ w.cipher_lies in
       ap cipher_of i ∙ cipher_of-identifier c
 
-  header_refused : (r : Refusal) → kdf_of s (kdf_place c fig (length salt)) ≡ kdf.Refused r → minor ≤ 1
+  header_refused : (r : Refusal) → kdf_of s (kdf_place c fig (length salt)) ≡ Err r → minor ≤ 1
       → length s ≤ file_limit
-      → header s ≡ read.Refused r
+      → header s ≡ Err r
   header_refused r x m f =
       let l = at_least in
       let n = header_length-ge c fig (length salt) (length custom) in
@@ -243,11 +238,11 @@ module _ (minor : ℕ) (c : Cipher) (seed nonce : List ℕ) (fig : Figures) (sal
   module _ (writable : IsWritable fig (length salt))
       (sound : custom_verdict custom ≡ outcome.Accepted) where
     kdf_asks : kdf_of s (kdf_place c fig (length salt))
-        ≡ kdf.Asks (written_kdf fig (kdf_place c fig (length salt)) (length salt))
+        ≡ Ok (written_kdf fig (kdf_place c fig (length salt)) (length salt))
     kdf_asks = kdf_of-kdf_bytes fig salt s (kdf_place c fig (length salt)) writable kdf_bytes_lem
 
     judged_written : judged s (fields_with c kl (custom_place c fig (length salt) (length custom))) minor (header_length c fig (length salt) (length custom))
-        ≡ read.Header (written_header minor c fig (length salt) (length custom))
+        ≡ Ok (written_header minor c fig (length salt) (length custom))
     judged_written =
         accepts-judged s (fields_with c kl (custom_place c fig (length salt) (length custom))) minor (header_length c fig (length salt) (length custom)) c
         (written_kdf fig (kdf_place c fig (length salt)) (length salt))
@@ -255,7 +250,7 @@ module _ (minor : ℕ) (c : Cipher) (seed nonce : List ℕ) (fig : Figures) (sal
         kdf_asks (custom_judged sound)
 
     header_written : minor ≤ 1 → length s ≤ file_limit
-        → header s ≡ read.Header (written_header minor c fig (length salt) (length custom))
+        → header s ≡ Ok (written_header minor c fig (length salt) (length custom))
     header_written m f =
         let l = at_least in
         let n = header_length-ge c fig (length salt) (length custom) in
@@ -274,7 +269,7 @@ module _ (minor : ℕ) (c : Cipher) (seed nonce : List ℕ) (fig : Figures) (sal
 -- figures that pass the writer's checks are read back
 pub header_read_back : (minor : ℕ) (id seed nonce : List ℕ) (fig : Figures) (salt custom : List ℕ) (c : Cipher)
     (rest : List ℕ)
-    → checked minor id seed nonce fig salt custom ≡ As c
+    → checked minor id seed nonce fig salt custom ≡ Ok c
     → length (header_bytes minor c seed nonce fig salt custom ++ rest) ≤ file_limit
     → ReadsBack minor c seed nonce fig salt custom (header_bytes minor c seed nonce fig salt custom ++ rest)
     (written_header minor c fig (length salt) (length custom))
@@ -311,7 +306,7 @@ pub header_few : (minor : ℕ) (c : Cipher) (seed nonce : List ℕ) (rounds : �
     → rounds < rounds_least
     → length (header_bytes minor c seed nonce (figures.AesKdf rounds) salt custom ++ rest) ≤ file_limit
     → header (header_bytes minor c seed nonce (figures.AesKdf rounds) salt custom ++ rest)
-    ≡ read.Refused (TooFewRounds (rounds_item c))
+    ≡ Err (TooFewRounds (rounds_item c))
 unfolding kdf_length
 header_few minor c seed nonce rounds salt custom rest m seed_long nonce_long salt-long few f =
     let fig = figures.AesKdf rounds in

@@ -38,8 +38,9 @@ use Rattle.header_writer.specs.Written.{
   checked_cipher,
   checked,
 }
-use Rattle.header_writer.specs.declared.Checked.{Checked}
-use Rattle.header_writer.specs.declared.Checked.TheVariants.{As, Refused}
+use Rattle.std.specs.Prelude.{Result, Ok, Err}
+use Rattle.refusals.specs.declared.Refusal.{Refusal}
+use Rattle.ciphers.specs.declared.Cipher.{Cipher}
 use Rattle.header_writer.proofs.Laws.Layout.{length-header_bytes}
 
 module _ (minor : ℕ) (seed nonce kdf_seed : List ℕ) (rounds : ℕ) (seed_long : length seed ≡ 32)
@@ -87,39 +88,39 @@ unfolding header_bytes version_bytes custom_field field_bytes kdf_bytes aes_kdf_
 listed_lines_lem = refl
 
 -- what the writer says to these figures
-abbrev listed_checked : ℕ → List ℕ → Checked
+abbrev listed_checked : ℕ → List ℕ → Result Cipher Refusal
 listed_checked rounds custom =
     checked 1 (identifier ChaCha20) (replicate 32 0x11) (replicate 12 0x22) (figures.AesKdf rounds) (replicate 32 0x33) custom
 
-pub checked-listed : listed_checked 6_000 [] ≡ As ChaCha20
+pub checked-listed : listed_checked 6_000 [] ≡ Ok ChaCha20
 unfolding checked checked_cipher checked_sizes salt_sized checked_figures checked_custom custom_in custom_verdict cipher_of identifier nonce_length same rounds_limit rounds_least
 checked-listed = refl
 
-pub checked_custom_lem : listed_checked 6_000 (0x00 ∷ 0x01 ∷ 0x00 ∷ []) ≡ As ChaCha20
+pub checked_custom_lem : listed_checked 6_000 (0x00 ∷ 0x01 ∷ 0x00 ∷ []) ≡ Ok ChaCha20
 unfolding checked checked_cipher checked_sizes salt_sized checked_figures checked_custom custom_in custom_verdict cipher_of identifier nonce_length same rounds_limit rounds_least verdict walk walk_in entry_at
 checked_custom_lem = refl
 
-pub checked_most : listed_checked 4_000_000 [] ≡ As ChaCha20
+pub checked_most : listed_checked 4_000_000 [] ≡ Ok ChaCha20
 unfolding checked checked_cipher checked_sizes salt_sized checked_figures checked_custom custom_in custom_verdict cipher_of identifier nonce_length same rounds_limit rounds_least
 checked_most = refl
 
-pub checked_more : listed_checked 4_000_001 [] ≡ Refused (TooManyRounds 0)
+pub checked_more : listed_checked 4_000_001 [] ≡ Err (TooManyRounds 0)
 unfolding checked checked_cipher checked_sizes salt_sized checked_figures checked_custom custom_in custom_verdict cipher_of identifier nonce_length same rounds_limit rounds_least
 checked_more = refl
 
-pub checked_fewer : listed_checked 5_999 [] ≡ Refused (TooFewRounds 0)
+pub checked_fewer : listed_checked 5_999 [] ≡ Err (TooFewRounds 0)
 unfolding checked checked_cipher checked_sizes salt_sized checked_figures checked_custom custom_in custom_verdict cipher_of identifier nonce_length same rounds_limit rounds_least
 checked_fewer = refl
 
 -- what the writer says to Argon2 with a salt
-abbrev salted_checked : List ℕ → Checked
+abbrev salted_checked : List ℕ → Result Cipher Refusal
 salted_checked salt =
     checked 1 (identifier ChaCha20) (replicate 32 0x11) (replicate 12 0x22) (figures.Argon2d 1 8_192 1) salt []
 
-pub checked_salt : salted_checked (replicate 8 0x33) ≡ As ChaCha20
+pub checked_salt : salted_checked (replicate 8 0x33) ≡ Ok ChaCha20
 unfolding checked checked_cipher checked_sizes salt_sized checked_figures checked_custom custom_in custom_verdict cipher_of identifier nonce_length same argon2_fits
 checked_salt = refl
 
-pub checked_salt_short : salted_checked (replicate 7 0x33) ≡ Refused (FigureOutside 0)
+pub checked_salt_short : salted_checked (replicate 7 0x33) ≡ Err (FigureOutside 0)
 unfolding checked checked_cipher checked_sizes salt_sized checked_figures checked_custom custom_in custom_verdict cipher_of identifier nonce_length same argon2_fits
 checked_salt_short = refl

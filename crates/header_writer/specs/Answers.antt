@@ -4,12 +4,12 @@
 --   said    the cipher's number
 -- Not here: what the answer is (Written); a cipher's number (crate ciphers, Answers).
 -- Assumes nothing.
-use Rattle.std.specs.Prelude.{[], ◌∷◌}
+use Rattle.std.specs.Prelude.{[], ◌∷◌, Result, Ok, Err}
 use Rattle.refusals.specs.Numbers.{Said, success, refused}
 use Rattle.ciphers.specs.Answers.{cipher_number}
-use Rattle.header_writer.specs.declared.Checked.{Checked}
-use Rattle.header_writer.specs.declared.Checked.TheVariants.{As, Refused}
+use Rattle.refusals.specs.declared.Refusal.{Refusal}
+use Rattle.ciphers.specs.declared.Cipher.{Cipher}
 
-abbrev pub said : Checked → Said
-said (As c) = success (cipher_number c ∷ [])
-said (Refused r) = refused 1 r
+abbrev pub said : Result Cipher Refusal → Said
+said (Ok c) = success (cipher_number c ∷ [])
+said (Err r) = refused 1 r

@@ -4,7 +4,7 @@
 --   "a written file opens"                ReadsBack: the reader's part of that
 -- Not here: the bytes themselves (Written), reading (crate outer_header, Kdbx4Header).
 -- Assumes nothing.
-use Rattle.std.specs.Prelude.{◌≡◌, cond, List, ℕ, ◌+◌, eqb, length}
+use Rattle.std.specs.Prelude.{◌≡◌, cond, List, ℕ, ◌+◌, eqb, length, Ok}
 use Rattle.fields.specs.Fields.{bytes_at, nowhere}
 use Rattle.fields.specs.declared.Place.{Place}
 use Rattle.ciphers.specs.Ciphers.{nonce_length}
@@ -15,7 +15,6 @@ use Rattle.kdf_dictionary.specs.declared.Kdf.TheVariants as kdf
 use Rattle.kdf_dictionary.specs.declared.writer.Figures.{Figures}
 use Rattle.outer_header.specs.Kdbx4Header.{header}
 use Rattle.outer_header.specs.declared.Header.{Header}
-use Rattle.outer_header.specs.declared.Reading.TheVariants as read
 use Rattle.header_writer.specs.Written.{header_bytes, header_length}
 
 -- where the KDF dictionary stands, with a seed or salt of m bytes
@@ -54,7 +53,7 @@ salt_place (kdf.Argon2id k) = k.salt
 -- the reader finds h at the front of s: the figures that were written, and at its places the bytes that were written
 pub record ReadsBack (minor : ℕ) (c : Cipher) (seed nonce : List ℕ) (fig : Figures) (salt custom s : List ℕ)
     (h : Header) : Type 0 where
-  pub header_is : header s ≡ read.Header h
+  pub header_is : header s ≡ Ok h
   pub minor_is : h.minor ≡ minor
   pub cipher_is : h.cipher ≡ c
   pub kdf_is : h.kdf ≡ written_kdf fig h.kdf_dictionary (length salt)

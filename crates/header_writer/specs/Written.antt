@@ -10,7 +10,7 @@
 --   document 02, Item 8: "from writers .. it is zero"           every refusal's place
 -- Not here: fields (crate fields), the KDF dictionary (crate kdf_dictionary, Kdf), reading (crate outer_header).
 -- Assumes nothing.
-use Rattle.std.specs.Prelude.{Bool, true, cond, List, [], ◌∷◌, ◌++◌, ℕ, ◌+◌, eqb, leb, length}
+use Rattle.std.specs.Prelude.{Bool, true, cond, List, [], ◌∷◌, ◌++◌, ℕ, ◌+◌, eqb, leb, length, Option, Some, None, Result, Ok, Err}
 use Rattle.words.specs.Endian.{le_bytes}
 use Rattle.refusals.specs.declared.Refusal.TheVariants.{WrongVersion, WrongSize, Repeated, Unlisted, BrokenDictionary, TooManyRounds, TooFewRounds, FigureOutside}
 use Rattle.refusals.specs.declared.Outcome.{Outcome}
@@ -19,16 +19,13 @@ use Rattle.refusals.specs.Limits.{rounds_limit, rounds_least, argon2_fits}
 use Rattle.fields.specs.Fields.{field_bytes}
 use Rattle.ciphers.specs.Ciphers.{identifier, cipher_of, nonce_length}
 use Rattle.ciphers.specs.declared.Cipher.{Cipher}
-use Rattle.ciphers.specs.declared.Identified.{Identified}
-use Rattle.ciphers.specs.declared.Identified.TheVariants as identified
 use Rattle.dictionary.specs.Dictionary.{verdict}
-use Rattle.dictionary.specs.declared.Verdict.{Verdict}
-use Rattle.dictionary.specs.declared.Verdict.TheVariants as verdict_is
+use Rattle.dictionary.specs.declared.Fault.TheVariants as fault
+use Rattle.dictionary.specs.declared.Fault.{Fault}
 use Rattle.kdf_dictionary.specs.Kdf.{kdf_bytes, kdf_length}
 use Rattle.kdf_dictionary.specs.declared.writer.Figures.{Figures}
 use Rattle.kdf_dictionary.specs.declared.writer.Figures.TheVariants as figures
-use Rattle.header_writer.specs.declared.Checked.{Checked}
-use Rattle.header_writer.specs.declared.Checked.TheVariants.{As, Refused}
+use Rattle.refusals.specs.declared.Refusal.{Refusal}
 
 -- signatures, and version 4.minor
 unfoldable pub version_bytes : ℕ → List ℕ
@@ -64,17 +61,17 @@ unfoldable pub header_length : Cipher → Figures → ℕ → ℕ → ℕ
 header_length c fig m n = 98 + nonce_length c + kdf_length fig m + cond (eqb n 0) 0 (5 + n)
 
 -- 10 or 6, where there is a custom dictionary
-unfoldable pub custom_in : Verdict → Outcome
-custom_in verdict_is.Sound = outcome.Accepted
-custom_in (verdict_is.Broken at) = outcome.Refused (BrokenDictionary 0)
-custom_in (verdict_is.Repeated at) = outcome.Refused (Repeated 0)
+unfoldable pub custom_in : Result Unit Fault → Outcome
+custom_in (Ok tt) = outcome.Accepted
+custom_in (Err (fault.Broken at)) = outcome.Refused (BrokenDictionary 0)
+custom_in (Err (fault.Repeated at)) = outcome.Refused (Repeated 0)
 
 unfoldable pub custom_verdict : List ℕ → Outcome
 custom_verdict custom = cond (eqb (length custom) 0) outcome.Accepted (custom_in (verdict custom))
 
-unfoldable pub checked_custom : Cipher → Outcome → Checked
-checked_custom c outcome.Accepted = As c
-checked_custom c (outcome.Refused r) = Refused r
+unfoldable pub checked_custom : Cipher → Outcome → Result Cipher Refusal
+checked_custom c outcome.Accepted = Ok c
+checked_custom c (outcome.Refused r) = Err r
 
 -- the size of AES-KDF's seed; Argon2's salt is one of its figures
 unfoldable pub salt_sized : Figures → ℕ → Bool
@@ -83,32 +80,32 @@ salt_sized (figures.Argon2d passes memory lanes) n = true
 salt_sized (figures.Argon2id passes memory lanes) n = true
 
 -- 11 and 20 of AES-KDF, 22 of Argon2; then 10 or 6
-unfoldable pub checked_figures : Cipher → Figures → List ℕ → List ℕ → Checked
+unfoldable pub checked_figures : Cipher → Figures → List ℕ → List ℕ → Result Cipher Refusal
 checked_figures c (figures.AesKdf rounds) salt custom =
     cond (leb rounds rounds_limit)
-    (cond (leb rounds_least rounds) (checked_custom c (custom_verdict custom)) (Refused (TooFewRounds 0)))
-    (Refused (TooManyRounds 0))
+    (cond (leb rounds_least rounds) (checked_custom c (custom_verdict custom)) (Err (TooFewRounds 0)))
+    (Err (TooManyRounds 0))
 checked_figures c (figures.Argon2d passes memory lanes) salt custom =
     cond (argon2_fits (length salt) passes memory lanes) (checked_custom c (custom_verdict custom))
-    (Refused (FigureOutside 0))
+    (Err (FigureOutside 0))
 checked_figures c (figures.Argon2id passes memory lanes) salt custom =
     cond (argon2_fits (length salt) passes memory lanes) (checked_custom c (custom_verdict custom))
-    (Refused (FigureOutside 0))
+    (Err (FigureOutside 0))
 
 -- 5 (seeds, nonce), then the figures
-unfoldable pub checked_sizes : Cipher → List ℕ → List ℕ → Figures → List ℕ → List ℕ → Checked
+unfoldable pub checked_sizes : Cipher → List ℕ → List ℕ → Figures → List ℕ → List ℕ → Result Cipher Refusal
 checked_sizes c seed nonce fig salt custom =
     cond (eqb (length seed) 32)
     (cond (eqb (length nonce) (nonce_length c))
-    (cond (salt_sized fig (length salt)) (checked_figures c fig salt custom) (Refused (WrongSize 0)))
-    (Refused (WrongSize 0)))
-    (Refused (WrongSize 0))
+    (cond (salt_sized fig (length salt)) (checked_figures c fig salt custom) (Err (WrongSize 0)))
+    (Err (WrongSize 0)))
+    (Err (WrongSize 0))
 
-unfoldable pub checked_cipher : Identified → List ℕ → List ℕ → Figures → List ℕ → List ℕ → Checked
-checked_cipher identified.Unlisted seed nonce fig salt custom = Refused (Unlisted 0)
-checked_cipher (identified.As c) seed nonce fig salt custom = checked_sizes c seed nonce fig salt custom
+unfoldable pub checked_cipher : Option Cipher → List ℕ → List ℕ → Figures → List ℕ → List ℕ → Result Cipher Refusal
+checked_cipher None seed nonce fig salt custom = Err (Unlisted 0)
+checked_cipher (Some c) seed nonce fig salt custom = checked_sizes c seed nonce fig salt custom
 
 -- the writer's checks of a header's figures: minor version, cipher's identifier, and the rest
-unfoldable pub checked : ℕ → List ℕ → List ℕ → List ℕ → Figures → List ℕ → List ℕ → Checked
+unfoldable pub checked : ℕ → List ℕ → List ℕ → List ℕ → Figures → List ℕ → List ℕ → Result Cipher Refusal
 checked minor id seed nonce fig salt custom =
-    cond (leb minor 1) (checked_cipher (cipher_of id) seed nonce fig salt custom) (Refused (WrongVersion 0))
+    cond (leb minor 1) (checked_cipher (cipher_of id) seed nonce fig salt custom) (Err (WrongVersion 0))

@@ -12,61 +12,32 @@ ghost use Rattle.slices.specs.Over.{laid, put_at};
 ghost use Rattle.header_writer.specs.Written as written;
 ghost use Rattle.header_writer.specs.Answers as answers;
 
-use ciphers::{Cipher, Identified};
-use dictionary::Verdict;
+use ciphers::Cipher;
+use dictionary::Fault;
 use kdf_dictionary::writer::Figures;
 use refusals::Refusal;
 
-// The cipher of figures that may be written, or why they may not.
-#[derive(Clone, Copy)]
-pub enum Checked {
-    As(Cipher),
-    Refused(Refusal),
-}
-
-impl Checked {
-    // The number of the answer: 0 is success.
-    pub fn number(self) -> u8
-        ensures { result ≡ (answers.said self).number }
-    {
-        match self {
-            Checked::As(_) => 0,
-            Checked::Refused(r) => r.number(),
-        }
-    }
-
-    // The place of a refusal: 0 on success.
-    pub fn place(self) -> usize
-        ensures { result ≡ (answers.said self).place }
-    {
-        match self {
-            Checked::As(_) => 0,
-            Checked::Refused(r) => r.place(),
-        }
-    }
-
-    // The cipher's number: 0 on a refusal.
-    pub fn value(self) -> u8
-        ensures { result ∷ [] ≡ (answers.said self).values }
-    {
-        match self {
-            Checked::As(c) => c.number(),
-            Checked::Refused(_) => 0,
-        }
+// The value of a check's answer: the cipher's number; 0 on a refusal.
+pub fn checked_value(checked: Result<Cipher, Refusal>) -> u8
+    ensures { result ∷ [] ≡ (answers.said checked).values }
+{
+    match checked {
+        Ok(c) => c.number(),
+        Err(_) => 0,
     }
 }
 
 // A custom dictionary may be absent: it has no bytes then.
-fn check_custom(c: Cipher, custom: &[u8]) -> Checked
+fn check_custom(c: Cipher, custom: &[u8]) -> Result<Cipher, Refusal>
     ensures { result ≡ written.checked_custom c (written.custom_verdict custom.now) }
 {
     if custom.len() == 0 {
-        return Checked::As(c);
+        return Ok(c);
     }
     match dictionary::check(custom) {
-        Verdict::Sound => return Checked::As(c),
-        Verdict::Broken(_) => return Checked::Refused(Refusal::BrokenDictionary(0)),
-        Verdict::Repeated(_) => return Checked::Refused(Refusal::Repeated(0)),
+        Ok(()) => return Ok(c),
+        Err(Fault::Broken(_)) => return Err(Refusal::BrokenDictionary(0)),
+        Err(Fault::Repeated(_)) => return Err(Refusal::Repeated(0)),
     }
 }
 
@@ -90,7 +61,7 @@ fn is_sized(figures: Figures, n: usize) -> bool
 }
 
 // The KDF's figures, custom dictionary.
-fn check_figures(c: Cipher, figures: Figures, salt: &[u8], custom: &[u8]) -> Checked
+fn check_figures(c: Cipher, figures: Figures, salt: &[u8], custom: &[u8]) -> Result<Cipher, Refusal>
     ensures { result ≡ written.checked_figures c figures salt.now custom.now }
 {
     match figures {
@@ -99,9 +70,9 @@ fn check_figures(c: Cipher, figures: Figures, salt: &[u8], custom: &[u8]) -> Che
                 if refusals::limits::rounds_suffice(rounds) {
                     return check_custom(c, custom);
                 }
-                return Checked::Refused(Refusal::TooFewRounds(0));
+                return Err(Refusal::TooFewRounds(0));
             }
-            return Checked::Refused(Refusal::TooManyRounds(0));
+            return Err(Refusal::TooManyRounds(0));
         }
         Figures::Argon2d {
             passes,
@@ -111,7 +82,7 @@ fn check_figures(c: Cipher, figures: Figures, salt: &[u8], custom: &[u8]) -> Che
             if refusals::limits::argon2_figures_fit(salt.len(), passes, memory, lanes) {
                 return check_custom(c, custom);
             }
-            return Checked::Refused(Refusal::FigureOutside(0));
+            return Err(Refusal::FigureOutside(0));
         }
         Figures::Argon2id {
             passes,
@@ -121,7 +92,7 @@ fn check_figures(c: Cipher, figures: Figures, salt: &[u8], custom: &[u8]) -> Che
             if refusals::limits::argon2_figures_fit(salt.len(), passes, memory, lanes) {
                 return check_custom(c, custom);
             }
-            return Checked::Refused(Refusal::FigureOutside(0));
+            return Err(Refusal::FigureOutside(0));
         }
     }
 }
@@ -134,22 +105,23 @@ fn check_sizes(
     figures: Figures,
     salt: &[u8],
     custom: &[u8],
-) -> Checked
+) -> Result<Cipher, Refusal>
     ensures { result ≡ written.checked_sizes c seed.now nonce.now figures salt.now custom.now }
 {
     if seed.len() != 32 {
-        return Checked::Refused(Refusal::WrongSize(0));
+        return Err(Refusal::WrongSize(0));
     }
     if nonce.len() != c.nonce_len() {
-        return Checked::Refused(Refusal::WrongSize(0));
+        return Err(Refusal::WrongSize(0));
     }
     if is_sized(figures, salt.len()) {
         return check_figures(c, figures, salt, custom);
     }
-    Checked::Refused(Refusal::WrongSize(0))
+    Err(Refusal::WrongSize(0))
 }
 
-// Whether a header with these figures may be written.
+// The cipher of figures that may be written, or why they may not.
+#[tactic(auto, unfolding(crate::specs::Written::checked, crate::specs::Written::checked_cipher))]
 pub fn check(
     minor: u16,
     cipher: &[u8],
@@ -158,17 +130,15 @@ pub fn check(
     figures: Figures,
     salt: &[u8],
     custom: &[u8],
-) -> Checked
+) -> Result<Cipher, Refusal>
     ensures value { result ≡ written.checked minor cipher.now seed.now nonce.now figures salt.now custom.now }
     ensures result_value { answers.said result ≡ answers.said (written.checked minor cipher.now seed.now nonce.now figures salt.now custom.now) }
 {
     if 1 < minor {
-        return Checked::Refused(Refusal::WrongVersion(0));
+        return Err(Refusal::WrongVersion(0));
     }
-    match ciphers::identify(cipher) {
-        Identified::Unlisted => return Checked::Refused(Refusal::Unlisted(0)),
-        Identified::As(c) => return check_sizes(c, seed, nonce, figures, salt, custom),
-    }
+    let c = ciphers::identify(cipher).ok_or(Refusal::Unlisted(0))?;
+    check_sizes(c, seed, nonce, figures, salt, custom)
 }
 
 // The signatures and the version.

@@ -11,8 +11,7 @@ use Rattle.words.specs.Size.{int32}
 use Rattle.refusals.specs.Limits.{payload_limit}
 use Rattle.refusals.specs.declared.Refusal.TheVariants.{CutShort, WrongSize, Repeated, UnknownField, Absent, Unlisted}
 use Rattle.fields.specs.Fields.{fits, value_at, field_at, field_bytes}
-use Rattle.inner_header.specs.declared.Read.TheVariants as read
-use Rattle.inner_header.specs.declared.Attachment.TheVariants as answer
+use Rattle.std.specs.Prelude.{Ok, Err}
 use Rattle.refusals.specs.declared.Written.TheVariants as written
 use Rattle.inner_header.specs.InnerHeader.{
   rule_of,
@@ -54,53 +53,52 @@ abbrev payload : List ℕ
 payload = front ++ field_bytes 0 [] ++ (0x3C ∷ 0x3E ∷ [])
 
 inner-payload : inner payload
-    ≡ read.Header
-    (record { algorithm = 3; key = record { start = 28; length = 1 }; attachments = 2; document = 34 })
+    ≡ Ok (record { algorithm = 3; key = record { start = 28; length = 1 }; attachments = 2; document = 34 })
 unfolding inner inner_of opened judged judged_by fault walk walk_in put field_of repeated rule_of field_at value_at fits
     int32 le le_bytes field_bytes payload_limit
 inner-payload = refl
 
-attachment_0 : attachment payload 0 ≡ answer.At 1 (record { start = 6; length = 2 })
+attachment_0 : attachment payload 0 ≡ Ok (1, record { start = 6; length = 2 })
 unfolding attachment attachment_of shown opened judged judged_by fault walk walk_in put field_of repeated rule_of field_at
     value_at fits int32 le le_bytes field_bytes payload_limit
 attachment_0 = refl
 
-attachment_1 : attachment payload 1 ≡ answer.At 0 (record { start = 14; length = 0 })
+attachment_1 : attachment payload 1 ≡ Ok (0, record { start = 14; length = 0 })
 unfolding attachment attachment_of shown opened judged judged_by fault walk walk_in put field_of repeated rule_of field_at
     value_at fits int32 le le_bytes field_bytes payload_limit
 attachment_1 = refl
 
-attachment_2 : attachment payload 2 ≡ answer.Refused (Absent 29)
+attachment_2 : attachment payload 2 ≡ Err (Absent 29)
 unfolding attachment attachment_of shown opened judged judged_by fault walk walk_in put field_of repeated rule_of field_at
     value_at fits int32 le le_bytes field_bytes payload_limit
 attachment_2 = refl
 
 -- no end field
-inner_cut : inner front ≡ read.Refused (CutShort 29)
+inner_cut : inner front ≡ Err (CutShort 29)
 unfolding inner inner_of opened judged judged_by fault walk walk_in put field_of repeated rule_of field_at value_at fits
     int32 le le_bytes field_bytes payload_limit
 inner_cut = refl
 
 -- a repeated algorithm of a wrong size: 6 comes before 5
-inner-repeated : inner (field_bytes 1 (le_bytes 4 2) ++ field_bytes 1 []) ≡ read.Refused (Repeated 9)
+inner-repeated : inner (field_bytes 1 (le_bytes 4 2) ++ field_bytes 1 []) ≡ Err (Repeated 9)
 unfolding inner inner_of opened judged judged_by fault walk walk_in put field_of repeated rule_of field_at value_at fits
     int32 le le_bytes field_bytes payload_limit
 inner-repeated = refl
 
 -- an end field of size 1: 5
-inner_end : inner (field_bytes 0 (0x00 ∷ [])) ≡ read.Refused (WrongSize 0)
+inner_end : inner (field_bytes 0 (0x00 ∷ [])) ≡ Err (WrongSize 0)
 unfolding inner inner_of opened judged judged_by fault walk walk_in put field_of repeated rule_of field_at value_at fits
     int32 le le_bytes field_bytes payload_limit
 inner_end = refl
 
 -- algorithm 1 and no key: 8 comes before 9
-inner_absent : inner (field_bytes 1 (le_bytes 4 1) ++ field_bytes 0 []) ≡ read.Refused (Absent 9)
+inner_absent : inner (field_bytes 1 (le_bytes 4 1) ++ field_bytes 0 []) ≡ Err (Absent 9)
 unfolding inner inner_of opened judged judged_by fault walk walk_in put field_of repeated rule_of field_at value_at fits
     int32 le le_bytes field_bytes payload_limit
 inner_absent = refl
 
 -- .. and with a key 9
-inner-unlisted : inner (field_bytes 1 (le_bytes 4 1) ++ field_bytes 2 [] ++ field_bytes 0 []) ≡ read.Refused (Unlisted 0)
+inner-unlisted : inner (field_bytes 1 (le_bytes 4 1) ++ field_bytes 2 [] ++ field_bytes 0 []) ≡ Err (Unlisted 0)
 unfolding inner inner_of opened judged judged_by fault walk walk_in put field_of repeated rule_of field_at value_at fits
     int32 le le_bytes field_bytes payload_limit
 inner-unlisted = refl

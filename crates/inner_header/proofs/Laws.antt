@@ -9,6 +9,7 @@
 --   Planned   what a payload that is written passed
 --   Payload   the walk over a payload that is written
 --   Values    a run that is made of attachments' values
+--   Told      an answer's number and place are what it says
 pub mod Walk
 pub mod Sound
 pub mod Opened
@@ -17,3 +18,4 @@ pub mod Laid
 pub mod Planned
 pub mod Payload
 pub mod Values
+pub mod Told

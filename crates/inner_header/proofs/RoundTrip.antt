@@ -38,8 +38,7 @@ use Rattle.fields.specs.declared.Place.{Place}
 use Rattle.fields.specs.Fields.{bytes_at, nowhere}
 use Rattle.fields.proofs.Laws.Written.{further, get_or_inside, bytes_at_inside}
 use Rattle.inner_header.specs.declared.Inner.{Inner}
-use Rattle.inner_header.specs.declared.Read.TheVariants as read
-use Rattle.inner_header.specs.declared.Attachment.TheVariants as answer
+use Rattle.std.specs.Prelude.{Ok, Err}
 use Rattle.refusals.specs.declared.Written.TheVariants as written
 use Rattle.inner_header.specs.InnerHeader.{
   end_field,
@@ -82,7 +81,7 @@ use Rattle.inner_header.proofs.Laws.Payload.{
 }
 
 module _ (s : List ℕ) (h : Inner) (i : ℕ) where
-  answers_of : (w : Walked) → opened s ≡ w → inner_of s w ≡ read.Header h → i < h.attachments
+  answers_of : (w : Walked) → opened s ≡ w → inner_of s w ≡ Ok h → i < h.attachments
       → Shows s (attachment_of s i w)
   unfolding inner_of attachment_of shown
   answers_of (ended f end) o e l =
@@ -98,11 +97,11 @@ module _ (s : List ℕ) (h : Inner) (i : ℕ) where
       })
   answers_of (refused r) o e l = let z : ◌≡◌ {A = ℕ} 0 1 = cc in absurd (omega arith)
 
-  pub attachment-answers : inner s ≡ read.Header h → i < h.attachments → Shows s (attachment s i)
+  pub attachment-answers : inner s ≡ Ok h → i < h.attachments → Shows s (attachment s i)
   unfolding inner attachment
   attachment-answers e l = answers_of (opened s) refl e l
 
-  past_of : (w : Walked) → inner_of s w ≡ read.Header h → h.attachments ≤ i → attachment_of s i w ≡ answer.Refused (Absent (end_field h.document))
+  past_of : (w : Walked) → inner_of s w ≡ Ok h → h.attachments ≤ i → attachment_of s i w ≡ Err (Absent (end_field h.document))
   unfolding inner_of attachment_of
   past_of (ended f end) e l =
       let n : length f.attachments ≡ h.attachments = cc in
@@ -111,18 +110,18 @@ module _ (s : List ℕ) (h : Inner) (i : ℕ) where
       rw (le-ltb i (length f.attachments) b, d)
   past_of (refused r) e l = let z : ◌≡◌ {A = ℕ} 0 1 = cc in absurd (omega arith)
 
-  pub attachment_past : inner s ≡ read.Header h → h.attachments ≤ i → attachment s i ≡ answer.Refused (Absent (end_field h.document))
+  pub attachment_past : inner s ≡ Ok h → h.attachments ≤ i → attachment s i ≡ Err (Absent (end_field h.document))
   unfolding inner attachment
   attachment_past e l = past_of (opened s) e l
 
-refused_of : (s : List ℕ) (i : ℕ) (r : Refusal) (w : Walked) → inner_of s w ≡ read.Refused r
-    → attachment_of s i w ≡ answer.Refused r
+refused_of : (s : List ℕ) (i : ℕ) (r : Refusal) (w : Walked) → inner_of s w ≡ Err r
+    → attachment_of s i w ≡ Err r
 unfolding inner_of attachment_of
 refused_of s i r (ended f end) e = let z : ◌≡◌ {A = ℕ} 0 1 = cc in absurd (omega arith)
 refused_of s i r (refused x) e = cc
 
-pub attachment-refused : (s : List ℕ) (i : ℕ) (r : Refusal) → inner s ≡ read.Refused r
-    → attachment s i ≡ answer.Refused r
+pub attachment-refused : (s : List ℕ) (i : ℕ) (r : Refusal) → inner s ≡ Err r
+    → attachment s i ≡ Err r
 unfolding inner attachment
 attachment-refused s i r e = refused_of s i r (opened s) e
 
@@ -220,7 +219,7 @@ module _ (algorithm : ℕ) (key attachments document : List ℕ) (room n : ℕ)
       (record { content = content_of (further b p); answers = refl; content_is = d })
 
   pub attachment_written_past : (l : List Place) → run attachments ≡ all_fine l → (i : ℕ) → length l ≤ i
-      → attachment whole i ≡ answer.Refused (Absent (14 + length key + length attachments))
+      → attachment whole i ≡ Err (Absent (14 + length key + length attachments))
   unfolding attachment attachment_of
   attachment_written_past l e i h =
       let b = 14 + length key in
@@ -258,6 +257,6 @@ attachment_values algorithm key vs document room n w e i h =
     let b = bytes_at_values vs i h in
     record {
       content = a.content;
-      answers = a.answers ∙ ap (λ (x : ℕ). answer.At x a.content) (value_flags (run_bytes vs) p (get_or vs i []) f b);
+      answers = a.answers ∙ ap (λ (x : ℕ). Ok (x, a.content)) (value_flags (run_bytes vs) p (get_or vs i []) f b);
       content_is = a.content_is ∙ value_content (run_bytes vs) p (get_or vs i []) f b;
     }

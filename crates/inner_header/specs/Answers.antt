@@ -6,18 +6,17 @@
 --   said_attachment    an attachment: its flags, its content's start and length
 -- Not here: what the answer is (InnerHeader, Writer); a writing's number and length (refusals, Numbers).
 -- Assumes nothing.
-use Rattle.std.specs.Prelude.{[], ◌∷◌}
+use Rattle.std.specs.Prelude.{[], ◌∷◌, Result, Ok, Err, ℕ}
 use Rattle.refusals.specs.Numbers.{Said, success, refused}
-use Rattle.inner_header.specs.declared.Read.{Read}
-use Rattle.inner_header.specs.declared.Read.TheVariants as read
-use Rattle.inner_header.specs.declared.Attachment.{Attachment}
-use Rattle.inner_header.specs.declared.Attachment.TheVariants as answer
+use Rattle.refusals.specs.declared.Refusal.{Refusal}
+use Rattle.inner_header.specs.declared.Inner.{Inner}
+use Rattle.fields.specs.declared.Place.{Place}
 
-abbrev pub said_read : Read → Said
-said_read (read.Header h) =
+abbrev pub said_read : Result Inner Refusal → Said
+said_read (Ok h) =
     success (h.algorithm ∷ h.key.start ∷ h.key.length ∷ h.attachments ∷ h.document ∷ [])
-said_read (read.Refused r) = refused 5 r
+said_read (Err r) = refused 5 r
 
-abbrev pub said_attachment : Attachment → Said
-said_attachment (answer.At flags p) = success (flags ∷ p.start ∷ p.length ∷ [])
-said_attachment (answer.Refused r) = refused 3 r
+abbrev pub said_attachment : Result (ℕ × Place) Refusal → Said
+said_attachment (Ok (flags, p)) = success (flags ∷ p.start ∷ p.length ∷ [])
+said_attachment (Err r) = refused 3 r

@@ -14,7 +14,7 @@
 -- (proofs, Laws.Walk). A field that is absent has the place 0, where no field's value stands.
 -- Not here: a field at a place (crate fields); what the code keeps of the fields (Tally); what is written (Writer).
 -- Assumes nothing.
-use Rattle.std.specs.Prelude.{Bool, false, cond, ◌||◌, List, [], ◌∷◌, ◌++◌, ℕ, zero, suc, ◌+◌, ◌-◌, eqb, leb, ltb, length, get_or}
+use Rattle.std.specs.Prelude.{Bool, false, cond, ◌||◌, List, [], ◌∷◌, ◌++◌, ℕ, zero, suc, ◌+◌, ◌-◌, eqb, leb, ltb, length, get_or, Result, Ok, Err}
 use Rattle.words.specs.Endian.{le}
 use Rattle.refusals.specs.declared.Refusal.{Refusal}
 use Rattle.refusals.specs.declared.Refusal.TheVariants.{TooLong, CutShort, Absent, Unlisted}
@@ -24,13 +24,8 @@ use Rattle.refusals.specs.Limits.{payload_limit}
 use Rattle.fields.specs.declared.Place.{Place}
 use Rattle.fields.specs.declared.SizeRule.{SizeRule}
 use Rattle.fields.specs.declared.SizeRule.TheVariants.{Any, Exactly, AtLeast}
-use Rattle.fields.specs.declared.Field.{Field}
-use Rattle.fields.specs.declared.Field.TheVariants as field
 use Rattle.fields.specs.Fields.{end_of, begin, field_at, nowhere, given}
-use Rattle.inner_header.specs.declared.Read.{Read}
-use Rattle.inner_header.specs.declared.Read.TheVariants as read
-use Rattle.inner_header.specs.declared.Attachment.{Attachment}
-use Rattle.inner_header.specs.declared.Attachment.TheVariants as answer
+use Rattle.inner_header.specs.declared.Inner.{Inner}
 
 -- the places of the fields' values: attachments in the payload's order
 pub record Fields : Type 0 where
@@ -54,7 +49,7 @@ unfoldable pub repeated : Place → Place → ℕ → Bool
 repeated a k id = cond (eqb id 1) (given a) (cond (eqb id 2) (given k) false)
 
 -- the field at a place, where the algorithm's and the key's fields before it are known
-unfoldable pub field_of : Place → Place → List ℕ → ℕ → Field
+unfoldable pub field_of : Place → Place → List ℕ → ℕ → Result (ℕ × Place) Refusal
 field_of a k s at = field_at (listed (get_or s at 0)) (repeated a k (get_or s at 0)) (rule_of (get_or s at 0)) s at
 
 -- the fields with one more
@@ -72,9 +67,9 @@ pub data Walked : Type 0 where
   refused : Refusal → Walked
 
 -- the fields from `at` on, the first k of them, up to the end field
-unfoldable pub walk_in : Fields → Field → (Fields → ℕ → Walked) → Walked
-walk_in f (field.Refused r) rest = refused r
-walk_in f (field.At id p) rest = cond (eqb id 0) (ended f (end_of p)) (rest (put f id p) (end_of p))
+unfoldable pub walk_in : Fields → Result (ℕ × Place) Refusal → (Fields → ℕ → Walked) → Walked
+walk_in f (Err r) rest = refused r
+walk_in f (Ok (id, p)) rest = cond (eqb id 0) (ended f (end_of p)) (rest (put f id p) (end_of p))
 
 unfoldable pub walk : ℕ → Fields → List ℕ → ℕ → Walked
 walk zero f s at = refused (CutShort (length s))
@@ -109,29 +104,28 @@ unfoldable pub opened : List ℕ → Walked
 opened s = cond (leb (length s) payload_limit) (judged s (walk (length s) no_fields s 0)) (refused TooLong)
 
 -- what an accepted header says
-unfoldable pub inner_of : List ℕ → Walked → Read
-inner_of s (refused r) = read.Refused r
+unfoldable pub inner_of : List ℕ → Walked → Result Inner Refusal
+inner_of s (refused r) = Err r
 inner_of s (ended f end) =
-    read.Header
-    (record {
+    Ok (record {
       algorithm = le 4 s f.algorithm.start;
       key = f.key;
       attachments = length f.attachments;
       document = end;
     })
 
-unfoldable pub inner : List ℕ → Read
+unfoldable pub inner : List ℕ → Result Inner Refusal
 inner s = inner_of s (opened s)
 
 -- an attachment's flags, and the place of its content behind them
-unfoldable pub shown : List ℕ → Place → Attachment
-shown s p = answer.At (get_or s p.start 0) (record { start = p.start + 1; length = p.length - 1 })
+unfoldable pub shown : List ℕ → Place → Result (ℕ × Place) Refusal
+shown s p = Ok (get_or s p.start 0, record { start = p.start + 1; length = p.length - 1 })
 
-unfoldable pub attachment_of : List ℕ → ℕ → Walked → Attachment
-attachment_of s i (refused r) = answer.Refused r
+unfoldable pub attachment_of : List ℕ → ℕ → Walked → Result (ℕ × Place) Refusal
+attachment_of s i (refused r) = Err r
 attachment_of s i (ended f end) =
     cond (ltb i (length f.attachments)) (shown s (get_or f.attachments i nowhere))
-    (answer.Refused (Absent (end_field end)))
+    (Err (Absent (end_field end)))
 
-unfoldable pub attachment : List ℕ → ℕ → Attachment
+unfoldable pub attachment : List ℕ → ℕ → Result (ℕ × Place) Refusal
 attachment s i = attachment_of s i (opened s)

@@ -3,12 +3,11 @@
 --
 -- Not here: the fields themselves (InnerHeader).
 -- Assumes nothing.
-use Rattle.std.specs.Prelude.{cond, ℕ, ◌+◌, eqb, length, get_or}
+use Rattle.std.specs.Prelude.{cond, ℕ, ◌+◌, eqb, length, get_or, Result, Ok, Err}
 use Rattle.fields.specs.declared.Place.{Place}
 use Rattle.fields.specs.Fields.{nowhere}
 use Rattle.inner_header.specs.declared.Tally.{Tally}
-use Rattle.inner_header.specs.declared.Counted.{Counted}
-use Rattle.inner_header.specs.declared.Counted.TheVariants as counted
+use Rattle.refusals.specs.declared.Refusal.{Refusal}
 use Rattle.inner_header.specs.InnerHeader.{Fields, Walked, ended, refused}
 
 -- the tally of some fields, where the attachment of index i is asked for
@@ -21,9 +20,9 @@ tally_of i f =
       asked = get_or f.attachments i nowhere;
     }
 
-unfoldable pub tallied : ℕ → Walked → Counted
-tallied i (ended f end) = counted.Ended (tally_of i f) end
-tallied i (refused r) = counted.Refused r
+unfoldable pub tallied : ℕ → Walked → Result (Tally × ℕ) Refusal
+tallied i (ended f end) = Ok (tally_of i f, end)
+tallied i (refused r) = Err r
 
 -- a tally with one field more
 unfoldable pub put_tally : Tally → ℕ → ℕ → Place → Tally

@@ -12,7 +12,7 @@
 -- never ends it (proofs, Laws.Run).
 -- Not here: a field at a place, and the bytes of a field (crate fields); reading (InnerHeader).
 -- Assumes nothing.
-use Rattle.std.specs.Prelude.{false, cond, List, [], ◌∷◌, ◌++◌, ℕ, zero, suc, ◌+◌, eqb, leb, length, get_or}
+use Rattle.std.specs.Prelude.{false, cond, List, [], ◌∷◌, ◌++◌, ℕ, zero, suc, ◌+◌, eqb, leb, length, get_or, Result, Ok, Err}
 use Rattle.words.specs.Endian.{le_bytes}
 use Rattle.refusals.specs.declared.Refusal.{Refusal}
 use Rattle.refusals.specs.declared.Refusal.TheVariants.{TooLong, NoRoom, Unlisted}
@@ -22,8 +22,6 @@ use Rattle.refusals.specs.Numbers.{unplaced}
 use Rattle.refusals.specs.Limits.{payload_limit}
 use Rattle.fields.specs.declared.Place.{Place}
 use Rattle.fields.specs.declared.SizeRule.TheVariants.{AtLeast}
-use Rattle.fields.specs.declared.Field.{Field}
-use Rattle.fields.specs.declared.Field.TheVariants as field
 use Rattle.fields.specs.Fields.{end_of, field_at, field_bytes}
 use Rattle.inner_header.specs.InnerHeader.{algorithm_listed}
 use Rattle.refusals.specs.declared.Written.{Written}
@@ -35,7 +33,7 @@ pub data Run : Type 0 where
   refused : Refusal → Run
 
 -- a field of the run: of ID 3 alone, and the flags byte at least
-unfoldable pub run_at : List ℕ → ℕ → Field
+unfoldable pub run_at : List ℕ → ℕ → Result (ℕ × Place) Refusal
 run_at s at = field_at (eqb (get_or s at 0) 3) false (AtLeast 1) s at
 
 unfoldable pub before : Place → Run → Run
@@ -43,9 +41,9 @@ before p (all_fine l) = all_fine (p ∷ l)
 before p (refused r) = refused r
 
 -- the run's fields from `at` on, the first k of them, up to the run's end
-unfoldable pub run_in : Field → (ℕ → Run) → Run
-run_in (field.At id p) rest = before p (rest (end_of p))
-run_in (field.Refused r) rest = refused r
+unfoldable pub run_in : Result (ℕ × Place) Refusal → (ℕ → Run) → Run
+run_in (Ok (id, p)) rest = before p (rest (end_of p))
+run_in (Err r) rest = refused r
 
 unfoldable pub run_from : ℕ → List ℕ → ℕ → Run
 run_from zero s at = all_fine []

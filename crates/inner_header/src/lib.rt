@@ -14,7 +14,7 @@ ghost use Rattle.inner_header.specs.InnerHeader as kdbx4;
 ghost use Rattle.inner_header.specs.Answers as answers;
 ghost use Rattle.inner_header.specs.Tally as tally;
 
-use fields::{Field, Place, SizeRule};
+use fields::{Place, SizeRule};
 use refusals::{Outcome, Refusal};
 
 pub mod writer;
@@ -29,88 +29,30 @@ pub struct Inner {
     pub document: usize,
 }
 
-// The inner header of a payload, or why it is refused.
-#[derive(Clone, Copy)]
-pub enum Read {
-    Header(Inner),
-    Refused(Refusal),
-}
-
-// An attachment: its flags, and the place of its content, without the flags byte.
-#[derive(Clone, Copy)]
-pub enum Attachment {
-    At(u8, Place),
-    Refused(Refusal),
-}
-
-impl Read {
-    // The number of the answer: 0 is success.
-    pub fn number(self) -> u8
-        ensures { result ≡ (answers.said_read self).number }
-    {
-        match self {
-            Read::Header(_) => 0,
-            Read::Refused(r) => r.number(),
-        }
-    }
-
-    // The place of a refusal: 0 on success.
-    pub fn place(self) -> usize
-        ensures { result ≡ (answers.said_read self).place }
-    {
-        match self {
-            Read::Header(_) => 0,
-            Read::Refused(r) => r.place(),
-        }
-    }
-
-    // The algorithm, the key's start and length, how many attachments there are, the document's start: zeros on a
-    // refusal.
-    pub fn values(self) -> [u64; 5]
-        ensures { result ≡ (answers.said_read self).values }
-    {
-        match self {
-            Read::Header(h) => [
-                h.algorithm as u64,
-                h.key.start as u64,
-                h.key.length as u64,
-                h.attachments as u64,
-                h.document as u64,
-            ],
-            Read::Refused(_) => [0u64; 5],
-        }
+// The values of a reader's answer: the algorithm, the key's start and length, how many attachments there are, the
+// document's start; zeros on a refusal.
+pub fn header_values(header: Result<Inner, Refusal>) -> [u64; 5]
+    ensures { result ≡ (answers.said_read header).values }
+{
+    match header {
+        Ok(h) => [
+            h.algorithm as u64,
+            h.key.start as u64,
+            h.key.length as u64,
+            h.attachments as u64,
+            h.document as u64,
+        ],
+        Err(_) => [0u64; 5],
     }
 }
 
-impl Attachment {
-    // The number of the answer: 0 is success.
-    pub fn number(self) -> u8
-        ensures { result ≡ (answers.said_attachment self).number }
-    {
-        match self {
-            Attachment::At(_, _) => 0,
-            Attachment::Refused(r) => r.number(),
-        }
-    }
-
-    // The place of a refusal: 0 on success.
-    pub fn place(self) -> usize
-        ensures { result ≡ (answers.said_attachment self).place }
-    {
-        match self {
-            Attachment::At(_, _) => 0,
-            Attachment::Refused(r) => r.place(),
-        }
-    }
-
-    // The flags, and the start and the length of the content: zeros on a refusal.
-    pub fn values(self) -> [u64; 3]
-        ensures { result ≡ (answers.said_attachment self).values }
-    {
-        match self {
-            Attachment::At(flags, p) => [flags as u64, p.start as u64, p.length as u64],
-            Attachment::Refused(_) => [0u64; 3],
-        }
+// The values of an attachment's answer: the flags, and the start and the length of the content; zeros on a refusal.
+pub fn attachment_values(attachment: Result<(u8, Place), Refusal>) -> [u64; 3]
+    ensures { result ≡ (answers.said_attachment attachment).values }
+{
+    match attachment {
+        Ok((flags, p)) => [flags as u64, p.start as u64, p.length as u64],
+        Err(_) => [0u64; 3],
     }
 }
 
@@ -122,13 +64,6 @@ struct Tally {
     key: Place,
     attachments: usize,
     asked: Place,
-}
-
-// All fields up to the end field, and where the document starts.
-#[derive(Clone, Copy)]
-enum Counted {
-    Ended(Tally, usize),
-    Refused(Refusal),
 }
 
 // How many bytes the value of a field may have.
@@ -161,7 +96,7 @@ fn is_repeated(t: Tally, id: u8) -> bool
 }
 
 // The field at a place, where the fields before it are known.
-fn field_of(t: Tally, s: &[u8], at: usize) -> Field
+fn field_of(t: Tally, s: &[u8], at: usize) -> Result<(u8, Place), Refusal>
     ensures { result ≡ kdbx4.field_of t.algorithm t.key s.now at }
 {
     let id = words::byte_at(s, at);
@@ -193,43 +128,30 @@ fn put(t: Tally, index: usize, id: u8, p: Place) -> Tally
     u
 }
 
-// All fields up to the end field, with the attachment of the index.
-fn walk(s: &[u8], index: usize) -> Counted
+// All fields up to the end field, with the attachment of the index; and where the document starts.
+fn walk(s: &[u8], index: usize) -> Result<(Tally, usize), Refusal>
     ensures { result ≡ tally.tallied index (kdbx4.walk (length s.now) kdbx4.no_fields s.now 0) }
 {
+    let nowhere = Place {
+        start: 0,
+        length: 0,
+    };
     let mut t = Tally {
-        algorithm: Place {
-            start: 0,
-            length: 0,
-        },
-        key: Place {
-            start: 0,
-            length: 0,
-        },
+        algorithm: nowhere,
+        key: nowhere,
         attachments: 0,
-        asked: Place {
-            start: 0,
-            length: 0,
-        },
+        asked: nowhere,
     };
     let mut at: usize = 0;
-    let mut left = s.len();
-    while 0 < left {
-        match field_of(t, s, at) {
-            Field::Refused(r) => return Counted::Refused(r),
-            Field::At(id, p) => {
-                let end = p.start + p.length;
-                if id == 0 {
-                    return Counted::Ended(t, end);
-                }
-                let u = put(t, index, id, p);
-                t = u;
-                at = end;
-            }
+    for _ in 0..s.len() {
+        let (id, p) = field_of(t, s, at)?;
+        at = p.start + p.length;
+        if id == 0 {
+            return Ok((t, at));
         }
-        left -= 1;
+        t = put(t, index, id, p);
     }
-    Counted::Refused(Refusal::CutShort(s.len()))
+    Err(Refusal::CutShort(s.len()))
 }
 
 // Whether the algorithm is listed.
@@ -270,57 +192,44 @@ fn fault(s: &[u8], t: Tally, end: usize) -> Outcome
 }
 
 // All the reader's checks, with the attachment of the index.
-fn judge(s: &[u8], index: usize) -> Counted
+fn judge(s: &[u8], index: usize) -> Result<(Tally, usize), Refusal>
     ensures { result ≡ tally.tallied index (kdbx4.opened s.now) }
 {
-    if refusals::limits::payload_fits(s.len()) {
-        match walk(s, index) {
-            Counted::Refused(r) => return Counted::Refused(r),
-            Counted::Ended(t, end) => {
-                match fault(s, t, end) {
-                    Outcome::Refused(r) => return Counted::Refused(r),
-                    Outcome::Accepted => return Counted::Ended(t, end),
-                }
-            }
-        }
+    if !refusals::limits::payload_fits(s.len()) {
+        return Err(Refusal::TooLong);
     }
-    Counted::Refused(Refusal::TooLong)
+    let (t, end) = walk(s, index)?;
+    match fault(s, t, end) {
+        Outcome::Refused(r) => Err(r),
+        Outcome::Accepted => Ok((t, end)),
+    }
 }
 
 // Reads an inner header.
-pub fn read_header(payload: &[u8]) -> Read
+pub fn read_header(payload: &[u8]) -> Result<Inner, Refusal>
     ensures value { result ≡ kdbx4.inner payload.now }
     ensures result_value { answers.said_read result ≡ answers.said_read (kdbx4.inner payload.now) }
 {
-    match judge(payload, 0) {
-        Counted::Refused(r) => return Read::Refused(r),
-        Counted::Ended(t, document) => {
-            let key = t.key;
-            return Read::Header(Inner {
-                algorithm: words::le::u32_at(payload, t.algorithm.start),
-                key,
-                attachments: t.attachments,
-                document,
-            });
-        }
-    }
+    let (t, document) = judge(payload, 0)?;
+    Ok(Inner {
+        algorithm: words::le::u32_at(payload, t.algorithm.start),
+        key: t.key,
+        attachments: t.attachments,
+        document,
+    })
 }
 
-// An attachment, counted from 0.
-pub fn find_attachment(payload: &[u8], index: usize) -> Attachment
+// An attachment, counted from 0: its flags, and the place of its content, without the flags byte.
+pub fn find_attachment(payload: &[u8], index: usize) -> Result<(u8, Place), Refusal>
     ensures value { result ≡ kdbx4.attachment payload.now index }
     ensures result_value { answers.said_attachment result ≡ answers.said_attachment (kdbx4.attachment payload.now index) }
 {
-    match judge(payload, index) {
-        Counted::Refused(r) => return Attachment::Refused(r),
-        Counted::Ended(t, end) => {
-            if index < t.attachments {
-                let start = t.asked.start + 1;
-                let length = t.asked.length - 1;
-                let flags = words::byte_at(payload, t.asked.start);
-                return Attachment::At(flags, Place { start, length });
-            }
-            return Attachment::Refused(Refusal::Absent(end_field(end)));
-        }
+    let (t, end) = judge(payload, index)?;
+    if t.attachments <= index {
+        return Err(Refusal::Absent(end_field(end)));
     }
+    let start = t.asked.start + 1;
+    let length = t.asked.length - 1;
+    let flags = words::byte_at(payload, t.asked.start);
+    Ok((flags, Place { start, length }))
 }

@@ -9,7 +9,7 @@ ghost use Rattle.slices.specs.Over.{over};
 ghost use Rattle.inner_header.specs.Writer as kdbx4;
 
 use crate::is_algorithm;
-use fields::{Field, SizeRule};
+use fields::SizeRule;
 use refusals::{Outcome, Refusal, Written};
 
 // Whether a run is fields of ID 3 with a flags byte at least, or its first fault.
@@ -17,8 +17,7 @@ fn check_run(run: &[u8]) -> Outcome
     ensures { result ≡ kdbx4.verdict (kdbx4.run run.now) }
 {
     let mut at: usize = 0;
-    let mut left = run.len();
-    while 0 < left {
+    for _ in 0..run.len() {
         if run.len() <= at {
             return Outcome::Accepted;
         }
@@ -29,12 +28,11 @@ fn check_run(run: &[u8]) -> Outcome
             false,
             SizeRule::AtLeast(1),
         ) {
-            Field::Refused(r) => return Outcome::Refused(r.unplaced()),
-            Field::At(_, p) => {
+            Err(r) => return Outcome::Refused(r.unplaced()),
+            Ok((_, p)) => {
                 at = p.start + p.length;
             }
         }
-        left -= 1;
     }
     Outcome::Accepted
 }

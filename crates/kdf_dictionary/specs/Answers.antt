@@ -6,18 +6,17 @@
 --   said         these values of the KDF that is asked for
 -- Not here: what the answer is (KdfDictionary).
 -- Assumes nothing.
-use Rattle.std.specs.Prelude.{List, [], ◌∷◌, ℕ}
+use Rattle.std.specs.Prelude.{List, [], ◌∷◌, ℕ, Result, Ok, Err}
 use Rattle.refusals.specs.Numbers.{Said, success, refused}
 use Rattle.kdf_dictionary.specs.declared.Kdf.{Kdf}
 use Rattle.kdf_dictionary.specs.declared.Kdf.TheVariants as kdf
-use Rattle.kdf_dictionary.specs.declared.Reading.{Reading}
-use Rattle.kdf_dictionary.specs.declared.Reading.TheVariants as read
+use Rattle.refusals.specs.declared.Refusal.{Refusal}
 
 abbrev pub kdf_values : Kdf → List ℕ
 kdf_values (kdf.AesKdf k) = 0 ∷ k.seed.start ∷ k.seed.length ∷ k.rounds ∷ 0 ∷ 0 ∷ []
 kdf_values (kdf.Argon2d k) = 1 ∷ k.salt.start ∷ k.salt.length ∷ k.passes ∷ k.memory ∷ k.lanes ∷ []
 kdf_values (kdf.Argon2id k) = 2 ∷ k.salt.start ∷ k.salt.length ∷ k.passes ∷ k.memory ∷ k.lanes ∷ []
 
-abbrev pub said : Reading → Said
-said (read.Asks k) = success (kdf_values k)
-said (read.Refused r) = refused 6 r
+abbrev pub said : Result Kdf Refusal → Said
+said (Ok k) = success (kdf_values k)
+said (Err r) = refused 6 r

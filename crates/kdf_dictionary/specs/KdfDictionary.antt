@@ -17,7 +17,7 @@
 -- Places are those of the file: `p` is where the dictionary stands in it.
 -- Not here: dictionaries themselves (crate dictionary), those that are written (Kdf), the bounds (refusals, Limits).
 -- Assumes nothing.
-use Rattle.std.specs.Prelude.{Bool, true, false, cond, not, ◌&&◌, List, ℕ, ◌+◌, ◌-◌, eqb, leb, length}
+use Rattle.std.specs.Prelude.{Bool, true, false, cond, not, ◌&&◌, List, ℕ, ◌+◌, ◌-◌, eqb, leb, length, Result, Ok, Err, Option, Some, None}
 use Rattle.words.specs.Endian.{le}
 use Rattle.slices.specs.Same.{same}
 use Rattle.refusals.specs.declared.Refusal.TheVariants.{Repeated, Unlisted, BrokenDictionary, TooManyRounds, TooFewRounds, FigureOutside}
@@ -25,10 +25,9 @@ use Rattle.refusals.specs.Limits.{rounds_limit, rounds_least, salt_fits, passes_
 use Rattle.fields.specs.Fields.{bytes_at, nowhere, given}
 use Rattle.fields.specs.declared.Place.{Place}
 use Rattle.dictionary.specs.Dictionary.{verdict, search_from}
-use Rattle.dictionary.specs.declared.Verdict.{Verdict}
-use Rattle.dictionary.specs.declared.Verdict.TheVariants.{Sound, Broken, Repeated as RepeatedAt}
-use Rattle.dictionary.specs.declared.Found.{Found}
-use Rattle.dictionary.specs.declared.Found.TheVariants as found
+use Rattle.dictionary.specs.declared.Fault.TheVariants as fault
+use Rattle.dictionary.specs.declared.Fault.{Fault}
+use Rattle.dictionary.specs.declared.Value.{Value}
 use Rattle.kdf_dictionary.specs.Kdf.{
   aes_kdf_uuid,
   argon2d_uuid,
@@ -51,27 +50,26 @@ use Rattle.kdf_dictionary.specs.declared.Variant.TheVariants as variant
 use Rattle.kdf_dictionary.specs.declared.Listed.{Listed}
 use Rattle.kdf_dictionary.specs.declared.Listed.TheVariants as listed
 use Rattle.kdf_dictionary.specs.declared.Items.{Items}
-use Rattle.kdf_dictionary.specs.declared.Reading.{Reading}
-use Rattle.kdf_dictionary.specs.declared.Reading.TheVariants.{Asks, Refused}
+use Rattle.refusals.specs.declared.Refusal.{Refusal}
 
 -- what a search in a sound dictionary finds
-abbrev pub searched : List ℕ → List ℕ → Found
+abbrev pub searched : List ℕ → List ℕ → Result (Option Value) Refusal
 searched d name = search_from (length d) d 2 name
 
 -- the place of what is found, where it has the type
-unfoldable pub typed_in : ℕ → Found → Place
-typed_in kind (found.Refused r) = nowhere
-typed_in kind found.Absent = nowhere
-typed_in kind (found.At k start n) = cond (eqb k kind) (record { start = start; length = n }) nowhere
+unfoldable pub typed_in : ℕ → Result (Option Value) Refusal → Place
+typed_in kind (Err r) = nowhere
+typed_in kind (Ok None) = nowhere
+typed_in kind (Ok (Some v)) = cond (eqb v.kind kind) (record { start = v.start; length = v.length }) nowhere
 
 -- the item of a name and a type in a sound dictionary: where its value stands
 abbrev pub item_of : List ℕ → List ℕ → ℕ → Place
 item_of d name kind = typed_in kind (searched d name)
 
-unfoldable pub is_found : Found → Bool
-is_found (found.Refused r) = false
-is_found found.Absent = false
-is_found (found.At kind start n) = true
+unfoldable pub is_found : Result (Option Value) Refusal → Bool
+is_found (Err r) = false
+is_found (Ok None) = false
+is_found (Ok (Some v)) = true
 
 -- an item of a name, of whatever type
 abbrev pub has_item : List ℕ → List ℕ → Bool
@@ -83,29 +81,29 @@ place_in p q = record { start = p.start + q.start; length = q.length }
 
 -- document 02, Item 8: "the first byte .. of the dictionary item at fault", nine bytes and the name before its value;
 -- "a dictionary fault that belongs to no item points to where the dictionary's value begins"
-unfoldable pub fault_in : Place → List ℕ → Found → ℕ
-fault_in p name (found.At kind start n) = p.start + (start - (9 + length name))
-fault_in p name found.Absent = p.start
-fault_in p name (found.Refused r) = p.start
+unfoldable pub fault_in : Place → List ℕ → Result (Option Value) Refusal → ℕ
+fault_in p name (Ok (Some v)) = p.start + (v.start - (9 + length name))
+fault_in p name (Ok None) = p.start
+fault_in p name (Err r) = p.start
 
 -- where the item of a name begins in the file, or the dictionary where there is none
 abbrev pub fault_at : List ℕ → Place → List ℕ → ℕ
 fault_at d p name = fault_in p name (searched d name)
 
 -- AES-KDF: `S` of type 42, 32 bytes; `R` of type 05, within the limit (11) and no less than the least (20)
-unfoldable pub aes_kdf_in : List ℕ → Place → Place → Place → Reading
+unfoldable pub aes_kdf_in : List ℕ → Place → Place → Place → Result Kdf Refusal
 aes_kdf_in d p q r =
     cond (eqb q.length 32)
     (cond (given r)
     (cond (leb (le 8 d r.start) rounds_limit)
     (cond (leb rounds_least (le 8 d r.start))
-    (Asks (kdf.AesKdf (record { seed = place_in p q; rounds = le 8 d r.start })))
-    (Refused (TooFewRounds (fault_at d p rounds_name))))
-    (Refused (TooManyRounds (fault_at d p rounds_name))))
-    (Refused (BrokenDictionary (fault_at d p rounds_name))))
-    (Refused (BrokenDictionary (fault_at d p salt_name)))
+    (Ok (kdf.AesKdf (record { seed = place_in p q; rounds = le 8 d r.start })))
+    (Err (TooFewRounds (fault_at d p rounds_name))))
+    (Err (TooManyRounds (fault_at d p rounds_name))))
+    (Err (BrokenDictionary (fault_at d p rounds_name))))
+    (Err (BrokenDictionary (fault_at d p salt_name)))
 
-unfoldable pub aes_kdf_of : List ℕ → Place → Reading
+unfoldable pub aes_kdf_of : List ℕ → Place → Result Kdf Refusal
 aes_kdf_of d p = aes_kdf_in d p (item_of d salt_name 0x42) (item_of d rounds_name 0x05)
 
 -- Argon2: where the values of its items stand
@@ -155,29 +153,27 @@ outside salt passes memory lanes =
     (cond (lanes_fit lanes) memory_name lanes_name) memory_name) passes_name) salt_name
 
 -- the figures within their bounds
-unfoldable pub argon2_figures : List ℕ → Place → Variant → Items → Reading
+unfoldable pub argon2_figures : List ℕ → Place → Variant → Items → Result Kdf Refusal
 argon2_figures d p v i =
     cond
     (argon2_fits i.salt.length (le 8 d i.passes.start) (le 8 d i.memory.start) (le 4 d i.lanes.start))
-    (Asks
-    (argon2_kdf v
+    (Ok (argon2_kdf v
     (record {
       salt = place_in p i.salt;
       passes = le 8 d i.passes.start;
       memory = le 8 d i.memory.start;
       lanes = le 4 d i.lanes.start;
     })))
-    (Refused
-    (FigureOutside
+    (Err (FigureOutside
     (fault_at d p
     (outside i.salt.length (le 8 d i.passes.start) (le 8 d i.memory.start) (le 4 d i.lanes.start)))))
 
-unfoldable pub argon2_in : List ℕ → Place → Variant → Items → Reading
+unfoldable pub argon2_in : List ℕ → Place → Variant → Items → Result Kdf Refusal
 argon2_in d p v i =
     cond (complete i)
     (cond (argon2_listed d i.version) (argon2_figures d p v i)
-    (Refused (Unlisted (fault_at d p (unlisted d i.version)))))
-    (Refused (BrokenDictionary (fault_at d p (incomplete i))))
+    (Err (Unlisted (fault_at d p (unlisted d i.version)))))
+    (Err (BrokenDictionary (fault_at d p (incomplete i))))
 
 -- a listed KDF
 unfoldable pub listed_as : List ℕ → Listed
@@ -186,25 +182,25 @@ listed_as id =
     (cond (same id argon2d_uuid) (listed.Argon2 variant.D)
     (cond (same id argon2id_uuid) (listed.Argon2 variant.Id) listed.Unlisted))
 
-unfoldable pub listed_in : List ℕ → Place → Listed → Reading
-listed_in d p listed.Unlisted = Refused (Unlisted (fault_at d p uuid_name))
+unfoldable pub listed_in : List ℕ → Place → Listed → Result Kdf Refusal
+listed_in d p listed.Unlisted = Err (Unlisted (fault_at d p uuid_name))
 listed_in d p listed.AesKdf = aes_kdf_of d p
 listed_in d p (listed.Argon2 v) = argon2_in d p v (argon2_items d)
 
 -- `$UUID` of type 42, 16 bytes
-unfoldable pub uuid_in : List ℕ → Place → Place → Reading
+unfoldable pub uuid_in : List ℕ → Place → Place → Result Kdf Refusal
 uuid_in d p q = cond (eqb q.length 16) (listed_in d p (listed_as (bytes_at d q)))
-    (Refused (BrokenDictionary (fault_at d p uuid_name)))
+    (Err (BrokenDictionary (fault_at d p uuid_name)))
 
-unfoldable pub uuid_of : List ℕ → Place → Reading
+unfoldable pub uuid_of : List ℕ → Place → Result Kdf Refusal
 uuid_of d p = uuid_in d p (item_of d uuid_name 0x42)
 
 -- the whole dictionary is walked before its items are looked at
-unfoldable pub kdf_in : List ℕ → Place → Verdict → Reading
-kdf_in d p (Broken at) = Refused (BrokenDictionary (p.start + at))
-kdf_in d p (RepeatedAt at) = Refused (Repeated (p.start + at))
-kdf_in d p Sound = uuid_of d p
+unfoldable pub kdf_in : List ℕ → Place → Result Unit Fault → Result Kdf Refusal
+kdf_in d p (Err (fault.Broken at)) = Err (BrokenDictionary (p.start + at))
+kdf_in d p (Err (fault.Repeated at)) = Err (Repeated (p.start + at))
+kdf_in d p (Ok tt) = uuid_of d p
 
 -- the KDF that the dictionary at a place of a file asks for
-unfoldable pub kdf_of : List ℕ → Place → Reading
+unfoldable pub kdf_of : List ℕ → Place → Result Kdf Refusal
 kdf_of s p = kdf_in (bytes_at s p) p (verdict (bytes_at s p))

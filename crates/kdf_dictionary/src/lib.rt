@@ -9,7 +9,7 @@ ghost use Rattle.std.specs.Prelude.{◌≡◌, ◌+◌, ◌^◌, ◌<◌, ◌≤
 ghost use Rattle.kdf_dictionary.specs.KdfDictionary as kdbx4;
 ghost use Rattle.kdf_dictionary.specs.Answers as answers;
 
-use dictionary::{Found, Verdict};
+use dictionary::Fault;
 use fields::Place;
 use refusals::Refusal;
 
@@ -54,13 +54,6 @@ pub enum Kdf {
     Argon2id(Argon2),
 }
 
-// The KDF that is asked for, or why the dictionary is refused.
-#[derive(Clone, Copy)]
-pub enum Reading {
-    Asks(Kdf),
-    Refused(Refusal),
-}
-
 impl Kdf {
     // Which KDF (0 AES-KDF, 1 Argon2d, 2 Argon2id), start and length of its seed or salt, rounds or passes, memory,
     // lanes.
@@ -89,35 +82,13 @@ impl Kdf {
     }
 }
 
-impl Reading {
-    // The number of the answer: 0 is success.
-    pub fn number(self) -> u8
-        ensures { result ≡ (answers.said self).number }
-    {
-        match self {
-            Reading::Asks(_) => 0,
-            Reading::Refused(r) => r.number(),
-        }
-    }
-
-    // The place of a refusal: 0 on success.
-    pub fn place(self) -> usize
-        ensures { result ≡ (answers.said self).place }
-    {
-        match self {
-            Reading::Asks(_) => 0,
-            Reading::Refused(r) => r.place(),
-        }
-    }
-
-    // The values of the KDF that is asked for: zeros on a refusal.
-    pub fn values(self) -> [u64; 6]
-        ensures { result ≡ (answers.said self).values }
-    {
-        match self {
-            Reading::Asks(k) => k.values(),
-            Reading::Refused(_) => [0u64; 6],
-        }
+// The values of a reader's answer: those of the KDF that is asked for; zeros on a refusal.
+pub fn kdf_values(kdf: Result<Kdf, Refusal>) -> [u64; 6]
+    ensures { result ≡ (answers.said kdf).values }
+{
+    match kdf {
+        Ok(k) => k.values(),
+        Err(_) => [0u64; 6],
     }
 }
 
@@ -147,6 +118,7 @@ pub struct Items {
 }
 
 // Where the value of a name and a type stands in a sound dictionary; the start 0 where there is none.
+#[tactic(auto, unfolding(crate::specs::KdfDictionary::typed_in))]
 fn item_of(d: &[u8], name: &[u8], kind: u8) -> Place
     ensures { result ≡ kdbx4.item_of d.now name.now kind }
 {
@@ -155,15 +127,14 @@ fn item_of(d: &[u8], name: &[u8], kind: u8) -> Place
         length: 0,
     };
     match dictionary::search_sound(d, name) {
-        Found::Refused(_) => return none,
-        Found::Absent => return none,
-        Found::At {
-            kind: k,
-            start,
-            length,
-        } => {
-            if k == kind {
-                return Place { start, length };
+        Err(_) => return none,
+        Ok(None) => return none,
+        Ok(Some(v)) => {
+            if v.kind == kind {
+                return Place {
+                    start: v.start,
+                    length: v.length,
+                };
             }
             return none;
         }
@@ -171,21 +142,19 @@ fn item_of(d: &[u8], name: &[u8], kind: u8) -> Place
 }
 
 // Whether a sound dictionary has an item of a name.
+#[tactic(auto, unfolding(crate::specs::KdfDictionary::is_found))]
 fn has_item(d: &[u8], name: &[u8]) -> bool
     ensures { result ≡ kdbx4.has_item d.now name.now }
 {
     match dictionary::search_sound(d, name) {
-        Found::Refused(_) => return false,
-        Found::Absent => return false,
-        Found::At {
-            kind: _,
-            start: _,
-            length: _,
-        } => return true,
+        Err(_) => return false,
+        Ok(None) => return false,
+        Ok(Some(_)) => return true,
     }
 }
 
 // Where the item of a name begins in the file: the dictionary's front where there is none.
+#[tactic(auto, unfolding(crate::specs::KdfDictionary::fault_in))]
 fn fault_at(d: &[u8], p: Place, name: &[u8]) -> usize
     requires d_bound { p.start + length d.now < 2 ^ 64 }
     requires name_len_bound { length name.now ≤ 5 }
@@ -193,17 +162,13 @@ fn fault_at(d: &[u8], p: Place, name: &[u8]) -> usize
 {
     let front = 9 + name.len();
     match dictionary::search_sound(d, name) {
-        Found::Refused(_) => return p.start,
-        Found::Absent => return p.start,
-        Found::At {
-            kind: _,
-            start,
-            length: _,
-        } => {
-            if start < front {
+        Err(_) => return p.start,
+        Ok(None) => return p.start,
+        Ok(Some(v)) => {
+            if v.start < front {
                 return p.start;
             }
-            return p.start + (start - front);
+            return p.start + (v.start - front);
         }
     }
 }
@@ -338,7 +303,7 @@ fn kdf_of(v: Variant, a: Argon2) -> Kdf
 }
 
 // Argon2's figures, read from its items.
-fn figures_of(d: &[u8], p: Place, v: Variant, i: Items) -> Reading
+fn figures_of(d: &[u8], p: Place, v: Variant, i: Items) -> Result<Kdf, Refusal>
     requires d_bound { p.start + length d.now < 2 ^ 64 }
     requires start_bound { p.start + i.salt.start < 2 ^ 64 }
     ensures { result ≡ kdbx4.argon2_figures d.now p v i }
@@ -349,7 +314,7 @@ fn figures_of(d: &[u8], p: Place, v: Variant, i: Items) -> Reading
     let lanes = words::le::u32_at(d, i.lanes.start);
     if refusals::limits::argon2_figures_fit(q.length, passes, memory, lanes) {
         let salt = place_in(p, q);
-        return Reading::Asks(kdf_of(
+        return Ok(kdf_of(
             v,
             Argon2 {
                 salt,
@@ -359,11 +324,11 @@ fn figures_of(d: &[u8], p: Place, v: Variant, i: Items) -> Reading
             },
         ));
     }
-    Reading::Refused(Refusal::FigureOutside(outside_at(d, p, q.length, passes, memory, lanes)))
+    Err(Refusal::FigureOutside(outside_at(d, p, q.length, passes, memory, lanes)))
 }
 
 // What the dictionary of a form of Argon2 asks for.
-fn argon2_of(d: &[u8], p: Place, v: Variant) -> Reading
+fn argon2_of(d: &[u8], p: Place, v: Variant) -> Result<Kdf, Refusal>
     requires { p.start + length d.now < 2 ^ 64 }
     ensures { result ≡ kdbx4.argon2_in d.now p v (kdbx4.argon2_items d.now) }
 {
@@ -373,33 +338,33 @@ fn argon2_of(d: &[u8], p: Place, v: Variant) -> Reading
         if is_listed(d, version) {
             return figures_of(d, p, v, i);
         }
-        return Reading::Refused(Refusal::Unlisted(unlisted_at(d, p, version)));
+        return Err(Refusal::Unlisted(unlisted_at(d, p, version)));
     }
-    Reading::Refused(Refusal::BrokenDictionary(incomplete_at(d, p, i)))
+    Err(Refusal::BrokenDictionary(incomplete_at(d, p, i)))
 }
 
 // What the dictionary of AES-KDF asks for.
-fn aes_kdf_of(d: &[u8], p: Place) -> Reading
+fn aes_kdf_of(d: &[u8], p: Place) -> Result<Kdf, Refusal>
     requires { p.start + length d.now < 2 ^ 64 }
     ensures { result ≡ kdbx4.aes_kdf_of d.now p }
 {
     let q = item_of(d, b"S", 0x42);
     let r = item_of(d, b"R", 0x05);
     if q.length != 32 {
-        return Reading::Refused(Refusal::BrokenDictionary(fault_at(d, p, b"S")));
+        return Err(Refusal::BrokenDictionary(fault_at(d, p, b"S")));
     }
     if r.start == 0 {
-        return Reading::Refused(Refusal::BrokenDictionary(fault_at(d, p, b"R")));
+        return Err(Refusal::BrokenDictionary(fault_at(d, p, b"R")));
     }
     let rounds = words::le::u64_at(d, r.start);
     if refusals::limits::rounds_fit(rounds) {
         if refusals::limits::rounds_suffice(rounds) {
             let seed = place_in(p, q);
-            return Reading::Asks(Kdf::AesKdf(AesKdf { seed, rounds }));
+            return Ok(Kdf::AesKdf(AesKdf { seed, rounds }));
         }
-        return Reading::Refused(Refusal::TooFewRounds(fault_at(d, p, b"R")));
+        return Err(Refusal::TooFewRounds(fault_at(d, p, b"R")));
     }
-    Reading::Refused(Refusal::TooManyRounds(fault_at(d, p, b"R")))
+    Err(Refusal::TooManyRounds(fault_at(d, p, b"R")))
 }
 
 // What an identifier is listed as.
@@ -422,39 +387,39 @@ fn identify(id: &[u8]) -> Listed
 }
 
 // What the dictionary of a KDF asks for.
-fn listed_of(d: &[u8], p: Place, kdf: Listed) -> Reading
+fn listed_of(d: &[u8], p: Place, kdf: Listed) -> Result<Kdf, Refusal>
     requires { p.start + length d.now < 2 ^ 64 }
     ensures { result ≡ kdbx4.listed_in d.now p kdf }
 {
     match kdf {
-        Listed::Unlisted => return Reading::Refused(Refusal::Unlisted(fault_at(d, p, b"$UUID"))),
+        Listed::Unlisted => return Err(Refusal::Unlisted(fault_at(d, p, b"$UUID"))),
         Listed::AesKdf => return aes_kdf_of(d, p),
         Listed::Argon2(v) => return argon2_of(d, p, v),
     }
 }
 
 // What a sound dictionary, which stands in the file at `p`, asks for.
-fn uuid_of(d: &[u8], p: Place) -> Reading
+fn uuid_of(d: &[u8], p: Place) -> Result<Kdf, Refusal>
     requires { p.start + length d.now < 2 ^ 64 }
     ensures { result ≡ kdbx4.uuid_of d.now p }
 {
     let q = item_of(d, b"$UUID", 0x42);
     if q.length != 16 {
-        return Reading::Refused(Refusal::BrokenDictionary(fault_at(d, p, b"$UUID")));
+        return Err(Refusal::BrokenDictionary(fault_at(d, p, b"$UUID")));
     }
     let kdf = identify(slices::part(d, q.start, q.length));
     listed_of(d, p, kdf)
 }
 
 // What the KDF dictionary at a place of a file asks for, or why it is refused.
-pub fn read(s: &[u8], p: Place) -> Reading
+pub fn read(s: &[u8], p: Place) -> Result<Kdf, Refusal>
     ensures value { result ≡ kdbx4.kdf_of s.now p }
     ensures result_value { answers.said result ≡ answers.said (kdbx4.kdf_of s.now p) }
 {
     let d = slices::part(s, p.start, p.length);
     match dictionary::check(d) {
-        Verdict::Broken(at) => return Reading::Refused(Refusal::BrokenDictionary(p.start + at)),
-        Verdict::Repeated(at) => return Reading::Refused(Refusal::Repeated(p.start + at)),
-        Verdict::Sound => return uuid_of(d, p),
+        Err(Fault::Broken(at)) => return Err(Refusal::BrokenDictionary(p.start + at)),
+        Err(Fault::Repeated(at)) => return Err(Refusal::Repeated(p.start + at)),
+        Ok(()) => return uuid_of(d, p),
     }
 }

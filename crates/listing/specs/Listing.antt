@@ -10,7 +10,7 @@
 -- Every line ends with a line feed, and nothing is printed for bytes behind the header.
 -- Not here: the frames (crate outer_header, Frames), hexadecimal digits (crate hexadecimal, Rfc4648), decimal (crate decimal).
 -- Assumes nothing.
-use Rattle.std.specs.Prelude.{cond, ℕ, ◌+◌, ◌/◌, ◌%◌, eqb, leb, length}
+use Rattle.std.specs.Prelude.{cond, ℕ, ◌+◌, ◌/◌, ◌%◌, eqb, leb, length, Result, Ok, Err}
 use mathlib.Core.List.{List, [], ◌∷◌, ◌++◌, flat_map}
 use Rattle.slices.specs.Over.{over}
 use Rattle.hexadecimal.specs.Rfc4648.{encode}
@@ -21,8 +21,7 @@ use Rattle.refusals.specs.declared.Written.TheVariants.{Wrote, Refused}
 use Rattle.refusals.specs.Numbers.{of_refusal, place_of}
 use Rattle.refusals.specs.Limits.{program_limit}
 use Rattle.decimal.specs.Decimal.{decimal}
-use Rattle.outer_header.specs.declared.Reading.{Reading}
-use Rattle.outer_header.specs.declared.Reading.TheVariants as read
+use Rattle.outer_header.specs.declared.Header.{Header}
 use Rattle.outer_header.specs.Kdbx4Header.{header}
 use Rattle.outer_header.specs.Frames.{field_frames, frames}
 
@@ -50,9 +49,9 @@ placed_line n w = 0x52 ∷ (0x30 + n / 10) ∷ (0x30 + n % 10) ∷ 0x20 ∷ (w +
 unfoldable pub refusal_line : Refusal → List ℕ
 refusal_line r = cond (eqb (of_refusal r) 1) (number_line (of_refusal r)) (placed_line (of_refusal r) (decimal (place_of r)))
 
-unfoldable pub text_of : List ℕ → Reading → List ℕ
-text_of s (read.Header h) = frame_lines s
-text_of s (read.Refused r) = refusal_line r
+unfoldable pub text_of : List ℕ → Result Header Refusal → List ℕ
+text_of s (Ok h) = frame_lines s
+text_of s (Err r) = refusal_line r
 
 -- what the program prints for an input
 unfoldable pub text : List ℕ → List ℕ

@@ -8,15 +8,14 @@
 // 65,536 bytes has the text R01; an output that is too short is refusal 17.
 #![tactic(auto)]
 
-ghost use Rattle.std.specs.Prelude.{◌≡◌, ◌+◌, ◌*◌, ◌≤◌, ◌<◌, length};
+ghost use Rattle.std.specs.Prelude.{◌≡◌, ◌+◌, ◌*◌, ◌≤◌, ◌<◌, length, Ok};
 ghost use Rattle.slices.specs.Over.{over};
 ghost use Rattle.decimal.specs.Decimal as decimals;
 ghost use Rattle.outer_header.specs.Kdbx4Header as kdbx4;
 ghost use Rattle.outer_header.specs.Frames as frames;
-ghost use Rattle.outer_header.specs.declared.Reading.TheVariants as readings;
 ghost use Rattle.listing.specs.Listing as listing;
 
-use outer_header::{Header, Reading};
+use outer_header::Header;
 use refusals::{Refusal, Written};
 
 // Writes a frame's line over the front of `out`.
@@ -87,7 +86,7 @@ fn put_lines(s: &[u8], out: &mut [u8])
 
 // Writes the text of an accepted header.
 fn list_frames(s: &[u8], h: Header, out: &mut [u8]) -> Written
-    requires { kdbx4.header s.now ≡ readings.Header h }
+    requires { kdbx4.header s.now ≡ Ok h }
     ensures value { result ≡ listing.answer (listing.frame_lines s.now) out.old }
     ensures out_after { out.new ≡ listing.after (listing.frame_lines s.now) out.old }
 {
@@ -163,8 +162,8 @@ pub fn list(s: &[u8], out: &mut [u8]) -> Written
 {
     if refusals::limits::program_input_fits(s.len()) {
         match outer_header::read(s) {
-            Reading::Refused(r) => return list_refusal(r, out),
-            Reading::Header(h) => return list_frames(s, h, out),
+            Err(r) => return list_refusal(r, out),
+            Ok(h) => return list_frames(s, h, out),
         }
     }
     list_refusal(Refusal::TooLong, out)

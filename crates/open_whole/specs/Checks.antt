@@ -4,29 +4,28 @@
 --   settled                  an opening by its survey: the refusal, or what the ciphertext gives
 -- Not here: 16 and 17.
 -- Assumes nothing.
-use Rattle.std.specs.Prelude.{cond, List, ℕ, zero, suc, ◌+◌, ltb, length}
+use Rattle.std.specs.Prelude.{cond, List, ℕ, zero, suc, ◌+◌, ltb, length, Result, Ok, Err}
 use Rattle.refusals.specs.declared.Refusal.TheVariants.{CutShort, TrailingBytes}
 use Rattle.block_stream.specs.Blocks.{judge}
 use Rattle.block_stream.specs.declared.Block.{Block}
 use Rattle.block_stream.specs.declared.Block.TheVariants as block
 use Rattle.opening.specs.Decryption.{Opened, refused}
-use Rattle.open_whole.specs.declared.survey.Surveyed.{Surveyed}
-use Rattle.open_whole.specs.declared.survey.Surveyed.TheVariants.{Text, Refused}
+use Rattle.refusals.specs.declared.Refusal.{Refusal}
 
 -- at the closing block: bytes behind it (15)
-unfoldable pub survey_close : List ℕ → ℕ → ℕ → Surveyed
-survey_close f p c = cond (ltb (p + 36) (length f)) (Refused TrailingBytes) (Text c)
+unfoldable pub survey_close : List ℕ → ℕ → ℕ → Result ℕ Refusal
+survey_close f p c = cond (ltb (p + 36) (length f)) (Err TrailingBytes) (Ok c)
 
-unfoldable pub survey_in : Block → (ℕ → Surveyed) → Surveyed → Surveyed
-survey_in (block.Refused r) more end = Refused r
+unfoldable pub survey_in : Block → (ℕ → Result ℕ Refusal) → Result ℕ Refusal → Result ℕ Refusal
+survey_in (block.Refused r) more end = Err r
 survey_in (block.Data n) more end = more n
 survey_in block.Closing more end = end
 
-unfoldable pub survey : ℕ → List ℕ → List ℕ → ℕ → ℕ → ℕ → Surveyed
-survey zero base f i p c = Refused (CutShort 0)
+unfoldable pub survey : ℕ → List ℕ → List ℕ → ℕ → ℕ → ℕ → Result ℕ Refusal
+survey zero base f i p c = Err (CutShort 0)
 survey (suc m) base f i p c =
     survey_in (judge base f i p) (λ (n : ℕ). survey m base f (suc i) (p + 36 + n) (c + n)) (survey_close f p c)
 
-unfoldable pub settled : Surveyed → Opened → Opened
-settled (Refused r) o = refused r
-settled (Text c) o = o
+unfoldable pub settled : Result ℕ Refusal → Opened → Opened
+settled (Err r) o = refused r
+settled (Ok c) o = o

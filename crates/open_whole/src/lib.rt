@@ -19,9 +19,7 @@ ghost use Rattle.open_whole.specs.Ciphertext.{text, payload_in};
 use chacha20::ChaCha20;
 use ciphers::Cipher;
 use opening::Keys;
-use pkcs7::Padding;
 use refusals::{Refusal, Written};
-use survey::Surveyed;
 
 mod survey;
 mod text;
@@ -89,8 +87,8 @@ fn open_aes(k: Keys, f: &[u8], p: usize, c: usize, out: &mut [u8]) -> Written
     }
     let last = last_piece(k, f, p, c);
     match pkcs7::check(last) {
-        Padding::Wrong => return Written::Refused(Refusal::WrongPadding),
-        Padding::Of(padding) => {
+        None => return Written::Refused(Refusal::WrongPadding),
+        Some(padding) => {
             let m = 16 - (padding as usize);
             if out.len() < c - 16 + m {
                 return Written::Refused(Refusal::NoRoom);
@@ -132,8 +130,8 @@ pub fn open_blocks(k: Keys, f: &[u8], p: usize, out: &mut [u8]) -> Written
 {
     let base = k.base;
     match survey::survey(f, base, p) {
-        Surveyed::Refused(r) => return Written::Refused(r),
-        Surveyed::Text(c) => {
+        Err(r) => return Written::Refused(r),
+        Ok(c) => {
             let cipher = k.cipher;
             match cipher {
                 Cipher::Aes256 => return open_aes(k, f, p, c, out),

@@ -25,7 +25,6 @@ use aes::RoundKeys;
 use block_stream::Block;
 use ciphers::Cipher;
 use opening::{Keys, Opener, Phase, Stepped};
-use pkcs7::Padding;
 use refusals::{Refusal, Written};
 
 mod held;
@@ -216,8 +215,8 @@ fn close_aes(o: Opener, out: &mut [u8]) -> Stepped
     let held = o.held;
     let piece = last_piece(words, prev, held);
     match pkcs7::check(piece) {
-        Padding::Wrong => return refuse(closed, Refusal::WrongPadding),
-        Padding::Of(p) => {
+        None => return refuse(closed, Refusal::WrongPadding),
+        Some(p) => {
             let n = 16 - (p as usize);
             if out.len() < n {
                 return refuse(o, Refusal::NoRoom);

@@ -24,7 +24,7 @@ use Rattle.refusals.specs.declared.Refusal.TheVariants.{CutShort, WrongSize, Too
 use Rattle.refusals.specs.Limits.{file_limit, rounds_limit, rounds_least, argon2_fits}
 use Rattle.fields.specs.Fields.{given, fits, value_at, field_at, field_bytes}
 use Rattle.fields.specs.declared.Place.{Place}
-use Rattle.fields.specs.declared.Field.TheVariants as field
+use Rattle.std.specs.Prelude.{Err, Ok}
 use Rattle.ciphers.specs.Ciphers.{identifier, cipher_of, nonce_length}
 use Rattle.ciphers.specs.declared.Cipher.TheVariants.{ChaCha20}
 use Rattle.dictionary.specs.Dictionary as dictionary
@@ -50,9 +50,7 @@ use Rattle.kdf_dictionary.specs.KdfDictionary.{
   kdf_of,
 }
 use Rattle.kdf_dictionary.specs.declared.Kdf.TheVariants as kdf
-use Rattle.kdf_dictionary.specs.declared.Reading.TheVariants as asks
 use Rattle.outer_header.specs.declared.walk.Fields.{Fields}
-use Rattle.outer_header.specs.declared.Reading.TheVariants as read
 use Rattle.outer_header.specs.Kdbx4Header.{
   listed,
   size_rule,
@@ -75,7 +73,7 @@ use Rattle.outer_header.specs.Kdbx4Header.{
 }
 
 -- fewer than twelve bytes of anything
-pub header_short : (s : List ℕ) → length s < 12 → header s ≡ read.Refused (CutShort (length s))
+pub header_short : (s : List ℕ) → length s < 12 → header s ≡ Err (CutShort (length s))
 unfolding header file_limit
 header_short s h =
     let l : length s ≤ file_limit = omega arith in
@@ -83,12 +81,12 @@ header_short s h =
 
 module _ (f : Fields) (s : List ℕ) (at : ℕ) (fresh : seen f 12 ≡ false) (here : at + 5 ≤ length s)
     (custom : get_or s at 0 ≡ 12) where
-  pub custom_negative : le 4 s (at + 1) ≡ 0xFFFFFFFF → field_here f s at ≡ field.Refused (WrongSize at)
+  pub custom_negative : le 4 s (at + 1) ≡ 0xFFFFFFFF → field_here f s at ≡ Err (WrongSize at)
   unfolding field_here field_at value_at int32 listed
   custom_negative e = rw (custom, fresh, le-leb _ _ here, e)
 
   -- no file within the limit has a value so long
-  pub custom_long : le 4 s (at + 1) ≡ 0x7FFFFFFF → length s ≤ file_limit → field_here f s at ≡ field.Refused (CutShort (length s))
+  pub custom_long : le 4 s (at + 1) ≡ 0x7FFFFFFF → length s ≤ file_limit → field_here f s at ≡ Err (CutShort (length s))
   unfolding field_here field_at value_at int32 listed size_rule fits file_limit
   custom_long e h =
       let l : length s - (at + 5) < 0x7FFFFFFF = omega arith in
@@ -96,11 +94,11 @@ module _ (f : Fields) (s : List ℕ) (at : ℕ) (fresh : seen f 12 ≡ false) (h
 
 module _ (d : List ℕ) (p q r : Place) (long : q.length ≡ 32) (there : given r ≡ true) where
   pub rounds_most : le 8 d r.start ≡ 4_000_000
-      → aes_kdf_in d p q r ≡ asks.Asks (kdf.AesKdf (record { seed = place_in p q; rounds = 4_000_000 }))
+      → aes_kdf_in d p q r ≡ Ok (kdf.AesKdf (record { seed = place_in p q; rounds = 4_000_000 }))
   unfolding aes_kdf_in rounds_limit rounds_least
   rounds_most e = rw (eq-eqb q.length 32 long, there, e)
 
-  pub rounds_more : le 8 d r.start ≡ 4_000_001 → aes_kdf_in d p q r ≡ asks.Refused (TooManyRounds (fault_at d p rounds_name))
+  pub rounds_more : le 8 d r.start ≡ 4_000_001 → aes_kdf_in d p q r ≡ Err (TooManyRounds (fault_at d p rounds_name))
   unfolding aes_kdf_in rounds_limit rounds_least
   rounds_more e = rw (eq-eqb q.length 32 long, there, e)
 
@@ -116,8 +114,7 @@ chacha_header d =
     ++ field_bytes 0 (0x0D ∷ 0x0A ∷ 0x0D ∷ 0x0A ∷ [])
 
 pub header-listed : header (chacha_header (aes_kdf_bytes (replicate 32 0x33) 6_000))
-    ≡ read.Header
-    (record {
+    ≡ Ok (record {
       minor = 1;
       cipher = ChaCha20;
       seed = record { start = 47; length = 32 };
@@ -131,8 +128,7 @@ unfolding header body judged_in judged identified figures figures_in custom_of c
 header-listed = refl
 
 pub header-argon2id : header (chacha_header (argon2_bytes argon2id_uuid (replicate 32 0x33) 2 67_108_864 16))
-    ≡ read.Header
-    (record {
+    ≡ Ok (record {
       minor = 1;
       cipher = ChaCha20;
       seed = record { start = 47; length = 32 };
@@ -148,11 +144,11 @@ unfolding header body judged_in judged identified figures figures_in custom_of c
 header-argon2id = refl
 
 -- document 02, Item 8: the item `R` of this header stands at 133
-pub header-placed : header (chacha_header (aes_kdf_bytes (replicate 32 0x33) 4_000_001)) ≡ read.Refused (TooManyRounds 133)
+pub header-placed : header (chacha_header (aes_kdf_bytes (replicate 32 0x33) 4_000_001)) ≡ Err (TooManyRounds 133)
 unfolding header body judged_in judged identified figures figures_in custom_of complete walk walk_in ends_right field_here no_fields put seen size_rule listed field_at value_at fits int32 le le_bytes same field_bytes aes_kdf_bytes argon2_bytes item_bytes identifier cipher_of nonce_length kdf_of kdf_in uuid_of uuid_in listed_as listed_in aes_kdf_of aes_kdf_in typed_in is_found argon2_items kdfs.complete argon2_listed argon2_figures argon2_in argon2_fits rounds_limit rounds_least file_limit dictionary.verdict dictionary.walk dictionary.walk_in dictionary.named dictionary.named_in dictionary.entry_at dictionary.name_at dictionary.value_at dictionary.size_fits_type dictionary.search_from dictionary.search_in kdfs.fault_in
 header-placed = refl
 
 -- Item 3's case: one round is refused with 20 at 133
-pub header_few : header (chacha_header (aes_kdf_bytes (replicate 32 0x33) 1)) ≡ read.Refused (TooFewRounds 133)
+pub header_few : header (chacha_header (aes_kdf_bytes (replicate 32 0x33) 1)) ≡ Err (TooFewRounds 133)
 unfolding header body judged_in judged identified figures figures_in custom_of complete walk walk_in ends_right field_here no_fields put seen size_rule listed field_at value_at fits int32 le le_bytes same field_bytes aes_kdf_bytes argon2_bytes item_bytes identifier cipher_of nonce_length kdf_of kdf_in uuid_of uuid_in listed_as listed_in aes_kdf_of aes_kdf_in typed_in is_found argon2_items kdfs.complete argon2_listed argon2_figures argon2_in argon2_fits rounds_limit rounds_least file_limit dictionary.verdict dictionary.walk dictionary.walk_in dictionary.named dictionary.named_in dictionary.entry_at dictionary.name_at dictionary.value_at dictionary.size_fits_type dictionary.search_from dictionary.search_in kdfs.fault_in
 header_few = refl

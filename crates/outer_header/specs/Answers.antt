@@ -7,13 +7,12 @@
 -- Not here: what the answer is (Kdbx4Header); a cipher's number and a KDF's values (crates ciphers and kdf_dictionary,
 -- Answers).
 -- Assumes nothing.
-use Rattle.std.specs.Prelude.{List, ◌∷◌, ℕ}
+use Rattle.std.specs.Prelude.{List, ◌∷◌, ℕ, Result, Ok, Err}
 use Rattle.refusals.specs.Numbers.{Said, success, refused}
 use Rattle.ciphers.specs.Answers.{cipher_number}
 use Rattle.kdf_dictionary.specs.Answers.{kdf_values}
 use Rattle.outer_header.specs.declared.Header.{Header}
-use Rattle.outer_header.specs.declared.Reading.{Reading}
-use Rattle.outer_header.specs.declared.Reading.TheVariants as read
+use Rattle.refusals.specs.declared.Refusal.{Refusal}
 
 abbrev pub values_of : Header → List ℕ
 values_of h =
@@ -24,6 +23,6 @@ values_of h =
     ∷ h.custom.start ∷ h.custom.length
     ∷ kdf_values h.kdf
 
-abbrev pub said : Reading → Said
-said (read.Header h) = success (values_of h)
-said (read.Refused r) = refused 17 r
+abbrev pub said : Result Header Refusal → Said
+said (Ok h) = success (values_of h)
+said (Err r) = refused 17 r

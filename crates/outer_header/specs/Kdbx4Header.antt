@@ -17,7 +17,7 @@
 -- Not here: one field (crate fields); dictionaries (crates dictionary and kdf_dictionary); writing (crate
 -- header_writer, Written).
 -- Assumes nothing.
-use Rattle.std.specs.Prelude.{Bool, false, cond, ◌&&◌, ◌||◌, List, [], ◌∷◌, ℕ, zero, suc, ◌+◌, ◌-◌, eqb, leb, ltb, length, get_or}
+use Rattle.std.specs.Prelude.{Bool, false, cond, ◌&&◌, ◌||◌, List, [], ◌∷◌, ℕ, zero, suc, ◌+◌, ◌-◌, eqb, leb, ltb, length, get_or, Option, Some, None, Result, Ok, Err}
 use Rattle.words.specs.Endian.{le}
 use Rattle.slices.specs.Same.{same}
 use Rattle.refusals.specs.declared.Refusal.TheVariants.{
@@ -38,23 +38,16 @@ use Rattle.fields.specs.Fields.{bytes_at, end_of, begin, field_at, nowhere, give
 use Rattle.fields.specs.declared.Place.{Place}
 use Rattle.fields.specs.declared.SizeRule.{SizeRule}
 use Rattle.fields.specs.declared.SizeRule.TheVariants.{Any, Exactly}
-use Rattle.fields.specs.declared.Field.{Field}
-use Rattle.fields.specs.declared.Field.TheVariants as field
+use Rattle.refusals.specs.declared.Refusal.{Refusal}
 use Rattle.ciphers.specs.Ciphers.{cipher_of, nonce_length}
 use Rattle.ciphers.specs.declared.Cipher.{Cipher}
-use Rattle.ciphers.specs.declared.Identified.{Identified}
-use Rattle.ciphers.specs.declared.Identified.TheVariants.{As, Unlisted as NoCipher}
 use Rattle.dictionary.specs.Dictionary.{verdict}
-use Rattle.dictionary.specs.declared.Verdict.{Verdict}
-use Rattle.dictionary.specs.declared.Verdict.TheVariants as verdict_is
+use Rattle.dictionary.specs.declared.Fault.TheVariants as fault
+use Rattle.dictionary.specs.declared.Fault.{Fault}
 use Rattle.kdf_dictionary.specs.KdfDictionary.{kdf_of}
-use Rattle.kdf_dictionary.specs.declared.Reading.{Reading as KdfReading}
-use Rattle.kdf_dictionary.specs.declared.Reading.TheVariants as kdf
+use Rattle.kdf_dictionary.specs.declared.Kdf.{Kdf}
+use Rattle.outer_header.specs.declared.Header.{Header}
 use Rattle.outer_header.specs.declared.walk.Fields.{Fields}
-use Rattle.outer_header.specs.declared.walk.Walked.{Walked}
-use Rattle.outer_header.specs.declared.walk.Walked.TheVariants as walked
-use Rattle.outer_header.specs.declared.Reading.{Reading}
-use Rattle.outer_header.specs.declared.Reading.TheVariants as read
 
 -- the table of fields
 unfoldable pub listed : ℕ → Bool
@@ -97,7 +90,7 @@ no_fields = record {
 }
 
 -- the field at a place, where the fields before it are known
-unfoldable pub field_here : Fields → List ℕ → ℕ → Field
+unfoldable pub field_here : Fields → List ℕ → ℕ → Result (ℕ × Place) Refusal
 field_here f s at = field_at (listed (get_or s at 0)) (seen f (get_or s at 0)) (size_rule (get_or s at 0)) s at
 
 -- "end, bytes 0D 0A 0D 0A"
@@ -105,15 +98,15 @@ unfoldable pub ends_right : List ℕ → Place → Bool
 ends_right s p = same (bytes_at s p) (0x0D ∷ 0x0A ∷ 0x0D ∷ 0x0A ∷ [])
 
 -- the fields from `at` on, the first k of them, up to the end field
-unfoldable pub walk_in : Fields → List ℕ → Field → (Fields → ℕ → Walked) → Walked
-walk_in f s (field.Refused r) rest = walked.Refused r
-walk_in f s (field.At id p) rest =
+unfoldable pub walk_in : Fields → List ℕ → Result (ℕ × Place) Refusal → (Fields → ℕ → Result (Fields × ℕ) Refusal) → Result (Fields × ℕ) Refusal
+walk_in f s (Err r) rest = Err r
+walk_in f s (Ok (id, p)) rest =
     cond (eqb id 0)
-    (cond (ends_right s p) (walked.Ended f (end_of p)) (walked.Refused (WrongSize (begin p))))
+    (cond (ends_right s p) (Ok (f, end_of p)) (Err (WrongSize (begin p))))
     (rest (put f id p) (end_of p))
 
-unfoldable pub walk : ℕ → Fields → List ℕ → ℕ → Walked
-walk zero f s at = walked.Refused (CutShort (length s))
+unfoldable pub walk : ℕ → Fields → List ℕ → ℕ → Result (Fields × ℕ) Refusal
+walk zero f s at = Err (CutShort (length s))
 walk (suc k) f s at = walk_in f s (field_here f s at) (λ (g : Fields) (n : ℕ). walk k g s n)
 
 -- "a required field is absent at the end field": all but 12 are required
@@ -121,21 +114,20 @@ unfoldable pub complete : Fields → Bool
 complete f = given f.cipher && (given f.compression && (given f.seed && (given f.nonce && given f.kdf)))
 
 -- a custom dictionary is judged where it is given; its places are the file's
-unfoldable pub custom_in : Place → Verdict → Outcome
-custom_in p verdict_is.Sound = outcome.Accepted
-custom_in p (verdict_is.Broken at) = outcome.Refused (BrokenDictionary (p.start + at))
-custom_in p (verdict_is.Repeated at) = outcome.Refused (Repeated (p.start + at))
+unfoldable pub custom_in : Place → Result Unit Fault → Outcome
+custom_in p (Ok tt) = outcome.Accepted
+custom_in p (Err (fault.Broken at)) = outcome.Refused (BrokenDictionary (p.start + at))
+custom_in p (Err (fault.Repeated at)) = outcome.Refused (Repeated (p.start + at))
 
 unfoldable pub custom_of : List ℕ → Place → Outcome
 custom_of s p = cond (given p) (custom_in p (verdict (bytes_at s p))) outcome.Accepted
 
 -- "KDF dictionary, custom dictionary": the header's figures, at last
-unfoldable pub figures_in : Fields → ℕ → ℕ → Cipher → KdfReading → Outcome → Reading
-figures_in f minor end c (kdf.Refused r) custom = read.Refused r
-figures_in f minor end c (kdf.Asks k) (outcome.Refused x) = read.Refused x
-figures_in f minor end c (kdf.Asks k) outcome.Accepted =
-    read.Header
-    (record {
+unfoldable pub figures_in : Fields → ℕ → ℕ → Cipher → Result Kdf Refusal → Outcome → Result Header Refusal
+figures_in f minor end c (Err r) custom = Err r
+figures_in f minor end c (Ok k) (outcome.Refused x) = Err x
+figures_in f minor end c (Ok k) outcome.Accepted =
+    Ok (record {
       minor = minor;
       cipher = c;
       seed = f.seed;
@@ -146,46 +138,46 @@ figures_in f minor end c (kdf.Asks k) outcome.Accepted =
       length = end;
     })
 
-unfoldable pub figures : List ℕ → Fields → ℕ → ℕ → Cipher → Reading
+unfoldable pub figures : List ℕ → Fields → ℕ → ℕ → Cipher → Result Header Refusal
 figures s f minor end c = figures_in f minor end c (kdf_of s f.kdf) (custom_of s f.custom)
 
 -- "cipher then compression (9), nonce size (5)"
-unfoldable pub identified : List ℕ → Fields → ℕ → ℕ → Identified → Reading
-identified s f minor end NoCipher = read.Refused (Unlisted (begin f.cipher))
-identified s f minor end (As c) =
+unfoldable pub identified : List ℕ → Fields → ℕ → ℕ → Option Cipher → Result Header Refusal
+identified s f minor end None = Err (Unlisted (begin f.cipher))
+identified s f minor end (Some c) =
     cond (eqb (le 4 s f.compression.start) 0)
     (cond (eqb f.nonce.length (nonce_length c)) (figures s f minor end c)
-    (read.Refused (WrongSize (begin f.nonce))))
-    (read.Refused (Unlisted (begin f.compression)))
+    (Err (WrongSize (begin f.nonce))))
+    (Err (Unlisted (begin f.compression)))
 
 -- where the end field begins: five bytes and its value's four before the header's end
 abbrev pub end_field : ℕ → ℕ
 end_field end = end - 9
 
 -- "absence (8)"
-unfoldable pub judged : List ℕ → Fields → ℕ → ℕ → Reading
+unfoldable pub judged : List ℕ → Fields → ℕ → ℕ → Result Header Refusal
 judged s f minor end =
     cond (complete f) (identified s f minor end (cipher_of (bytes_at s f.cipher)))
-    (read.Refused (Absent (end_field end)))
+    (Err (Absent (end_field end)))
 
-unfoldable pub judged_in : List ℕ → ℕ → Walked → Reading
-judged_in s minor (walked.Refused r) = read.Refused r
-judged_in s minor (walked.Ended f end) = judged s f minor end
+unfoldable pub judged_in : List ℕ → ℕ → Result (Fields × ℕ) Refusal → Result Header Refusal
+judged_in s minor (Err r) = Err r
+judged_in s minor (Ok (f, end)) = judged s f minor end
 
 -- the fields of a file of a known version
-unfoldable pub body : List ℕ → ℕ → Reading
+unfoldable pub body : List ℕ → ℕ → Result Header Refusal
 body s minor = judged_in s minor (walk (length s) no_fields s 12)
 
 -- "Order: length (1), 12 bytes present (2), signatures (3), version (4)": 4.0 or 4.1, then the fields
-unfoldable pub header : List ℕ → Reading
+unfoldable pub header : List ℕ → Result Header Refusal
 header s =
     cond (leb (length s) file_limit)
-    (cond (ltb (length s) 12) (read.Refused (CutShort (length s)))
+    (cond (ltb (length s) 12) (Err (CutShort (length s)))
     (cond (eqb (le 4 s 0) 0x9AA2D903)
     (cond (eqb (le 4 s 4) 0xB54BFB67)
     (cond (eqb (le 4 s 8) 0x40000) (body s 0)
     (cond (eqb (le 4 s 8) 0x40001) (body s 1)
-    (read.Refused (WrongVersion 8))))
-    (read.Refused (WrongSignature 4)))
-    (read.Refused (WrongSignature 0))))
-    (read.Refused TooLong)
+    (Err (WrongVersion 8))))
+    (Err (WrongSignature 4)))
+    (Err (WrongSignature 0))))
+    (Err TooLong)

@@ -11,12 +11,12 @@ ghost use Rattle.std.specs.Prelude.{◌≡◌};
 ghost use Rattle.outer_header.specs.Kdbx4Header as kdbx4;
 ghost use Rattle.outer_header.specs.Answers as answers;
 
-use ciphers::{Cipher, Identified};
-use dictionary::Verdict;
+use ciphers::Cipher;
+use dictionary::Fault;
 use fields::Place;
 use kdf_dictionary::Kdf;
 use refusals::{Outcome, Refusal};
-use walk::{Fields, Walked};
+use walk::Fields;
 
 pub mod walk;
 
@@ -31,13 +31,6 @@ pub struct Header {
     pub kdf_dictionary: Place,
     pub custom: Place,
     pub length: usize,
-}
-
-// The header of a file, or why it is refused.
-#[derive(Clone, Copy)]
-pub enum Reading {
-    Header(Header),
-    Refused(Refusal),
 }
 
 impl Header {
@@ -71,35 +64,13 @@ impl Header {
     }
 }
 
-impl Reading {
-    // The number of the answer: 0 is success.
-    pub fn number(self) -> u8
-        ensures { result ≡ (answers.said self).number }
-    {
-        match self {
-            Reading::Header(_) => 0,
-            Reading::Refused(r) => r.number(),
-        }
-    }
-
-    // The place of a refusal: 0 on success.
-    pub fn place(self) -> usize
-        ensures { result ≡ (answers.said self).place }
-    {
-        match self {
-            Reading::Header(_) => 0,
-            Reading::Refused(r) => r.place(),
-        }
-    }
-
-    // The values of the header: zeros on a refusal.
-    pub fn values(self) -> [u64; 17]
-        ensures { result ≡ (answers.said self).values }
-    {
-        match self {
-            Reading::Header(h) => h.values(),
-            Reading::Refused(_) => [0u64; 17],
-        }
+// The values of a reader's answer: those of the header; zeros on a refusal.
+pub fn header_values(header: Result<Header, Refusal>) -> [u64; 17]
+    ensures { result ≡ (answers.said header).values }
+{
+    match header {
+        Ok(h) => h.values(),
+        Err(_) => [0u64; 17],
     }
 }
 
@@ -128,67 +99,64 @@ fn custom_of(s: &[u8], p: Place) -> Outcome
 {
     if p.start != 0 {
         match dictionary::check(slices::part(s, p.start, p.length)) {
-            Verdict::Sound => return Outcome::Accepted,
-            Verdict::Broken(at) => return Outcome::Refused(Refusal::BrokenDictionary(p.start + at)),
-            Verdict::Repeated(at) => return Outcome::Refused(Refusal::Repeated(p.start + at)),
+            Ok(()) => return Outcome::Accepted,
+            Err(Fault::Broken(at)) => return Outcome::Refused(Refusal::BrokenDictionary(
+                p.start + at,
+            )),
+            Err(Fault::Repeated(at)) => return Outcome::Refused(Refusal::Repeated(p.start + at)),
         }
     }
     Outcome::Accepted
 }
 
 // The header's figures, where both dictionaries are right.
-fn figures(s: &[u8], f: Fields, minor: u8, end: usize, c: Cipher) -> Reading
+fn figures(s: &[u8], f: Fields, minor: u8, end: usize, c: Cipher) -> Result<Header, Refusal>
     ensures { result ≡ kdbx4.figures s.now f minor end c }
 {
     let dictionary = f.kdf;
     let custom = f.custom;
-    match kdf_dictionary::read(s, dictionary) {
-        kdf_dictionary::Reading::Refused(r) => return Reading::Refused(r),
-        kdf_dictionary::Reading::Asks(kdf) => {
-            match custom_of(s, custom) {
-                Outcome::Refused(x) => return Reading::Refused(x),
-                Outcome::Accepted => {
-                    let seed = f.seed;
-                    let nonce = f.nonce;
-                    return Reading::Header(Header {
-                        minor,
-                        cipher: c,
-                        seed,
-                        nonce,
-                        kdf,
-                        kdf_dictionary: dictionary,
-                        custom,
-                        length: end,
-                    });
-                }
-            }
+    let kdf = kdf_dictionary::read(s, dictionary)?;
+    match custom_of(s, custom) {
+        Outcome::Refused(x) => return Err(x),
+        Outcome::Accepted => {
+            return Ok(Header {
+                minor,
+                cipher: c,
+                seed: f.seed,
+                nonce: f.nonce,
+                kdf,
+                kdf_dictionary: dictionary,
+                custom,
+                length: end,
+            });
         }
     }
 }
 
 // A header whose cipher is looked up: the cipher, then the compression, then the nonce's size.
-fn identified(s: &[u8], f: Fields, minor: u8, end: usize, id: Identified) -> Reading
+#[tactic(auto, unfolding(crate::specs::Kdbx4Header::identified))]
+fn identified(
+    s: &[u8],
+    f: Fields,
+    minor: u8,
+    end: usize,
+    id: Option<Cipher>,
+) -> Result<Header, Refusal>
     ensures { result ≡ kdbx4.identified s.now f minor end id }
 {
-    match id {
-        Identified::Unlisted => {
-            let p = f.cipher;
-            return Reading::Refused(Refusal::Unlisted(fields::begin(p)));
+    let cipher = f.cipher;
+    let c = id.ok_or(Refusal::Unlisted(fields::begin(cipher)))?;
+    let plain = words::le::u32_at(s, f.compression.start) == 0;
+    let sized = f.nonce.length == c.nonce_len();
+    if plain {
+        if sized {
+            return figures(s, f, minor, end, c);
         }
-        Identified::As(c) => {
-            let plain = words::le::u32_at(s, f.compression.start) == 0;
-            let sized = f.nonce.length == c.nonce_len();
-            if plain {
-                if sized {
-                    return figures(s, f, minor, end, c);
-                }
-                let q = f.nonce;
-                return Reading::Refused(Refusal::WrongSize(fields::begin(q)));
-            }
-            let p = f.compression;
-            return Reading::Refused(Refusal::Unlisted(fields::begin(p)));
-        }
+        let q = f.nonce;
+        return Err(Refusal::WrongSize(fields::begin(q)));
     }
+    let p = f.compression;
+    Err(Refusal::Unlisted(fields::begin(p)))
 }
 
 // Where the end field begins, whose last byte is before `end`.
@@ -202,7 +170,7 @@ fn end_field(end: usize) -> usize
 }
 
 // A header whose end field is reached.
-fn judge(s: &[u8], f: Fields, minor: u8, end: usize) -> Reading
+fn judge(s: &[u8], f: Fields, minor: u8, end: usize) -> Result<Header, Refusal>
     ensures { result ≡ kdbx4.judged s.now f minor end }
 {
     if is_complete(f) {
@@ -210,27 +178,25 @@ fn judge(s: &[u8], f: Fields, minor: u8, end: usize) -> Reading
         let id = ciphers::identify(slices::part(s, p.start, p.length));
         return identified(s, f, minor, end, id);
     }
-    Reading::Refused(Refusal::Absent(end_field(end)))
+    Err(Refusal::Absent(end_field(end)))
 }
 
 // The fields of a file of a known version.
-fn body(s: &[u8], minor: u8) -> Reading
+fn body(s: &[u8], minor: u8) -> Result<Header, Refusal>
     ensures { result ≡ kdbx4.body s.now minor }
 {
-    match walk::walk(s) {
-        Walked::Refused(r) => return Reading::Refused(r),
-        Walked::Ended(f, end) => return judge(s, f, minor, end),
-    }
+    let (f, end) = walk::walk(s)?;
+    judge(s, f, minor, end)
 }
 
 // The header of a file, or why it is refused.
-pub fn read(s: &[u8]) -> Reading
+pub fn read(s: &[u8]) -> Result<Header, Refusal>
     ensures value { result ≡ kdbx4.header s.now }
     ensures result_value { answers.said result ≡ answers.said (kdbx4.header s.now) }
 {
     if refusals::limits::file_fits(s.len()) {
         if s.len() < 12 {
-            return Reading::Refused(Refusal::CutShort(s.len()));
+            return Err(Refusal::CutShort(s.len()));
         }
         if words::le::u32_at(s, 0) == 0x9AA2_D903 {
             if words::le::u32_at(s, 4) == 0xB54B_FB67 {
@@ -241,11 +207,11 @@ pub fn read(s: &[u8]) -> Reading
                 if version == 0x4_0001 {
                     return body(s, 1);
                 }
-                return Reading::Refused(Refusal::WrongVersion(8));
+                return Err(Refusal::WrongVersion(8));
             }
-            return Reading::Refused(Refusal::WrongSignature(4));
+            return Err(Refusal::WrongSignature(4));
         }
-        return Reading::Refused(Refusal::WrongSignature(0));
+        return Err(Refusal::WrongSignature(0));
     }
-    Reading::Refused(Refusal::TooLong)
+    Err(Refusal::TooLong)
 }

@@ -2,7 +2,7 @@
 ghost use Rattle.std.specs.Prelude.{◌≡◌, length};
 ghost use Rattle.outer_header.specs.Kdbx4Header as kdbx4;
 
-use fields::{Field, Place, SizeRule};
+use fields::{Place, SizeRule};
 use refusals::Refusal;
 
 // The places of the fields' values. An absent field has the start 0, where no value stands.
@@ -14,13 +14,6 @@ pub struct Fields {
     pub nonce: Place,
     pub kdf: Place,
     pub custom: Place,
-}
-
-// All fields up to the end field, and where the header ends.
-#[derive(Clone, Copy)]
-pub enum Walked {
-    Ended(Fields, usize),
-    Refused(Refusal),
 }
 
 // Whether an ID is in the table of fields.
@@ -145,7 +138,7 @@ fn put(f: Fields, id: u8, p: Place) -> Fields
 }
 
 // The field at a place, where the fields before it are known.
-fn field_here(f: Fields, s: &[u8], at: usize) -> Field
+fn field_here(f: Fields, s: &[u8], at: usize) -> Result<(u8, Place), Refusal>
     ensures { result ≡ kdbx4.field_here f s.now at }
 {
     let id = words::byte_at(s, at);
@@ -162,30 +155,22 @@ fn ends_right(s: &[u8], p: Place) -> bool
     slices::same(slices::part(s, p.start, p.length), b"\x0D\x0A\x0D\x0A")
 }
 
-// All fields of a header up to the end field.
-pub(crate) fn walk(s: &[u8]) -> Walked
+// All fields of a header up to the end field, and where the header ends.
+pub(crate) fn walk(s: &[u8]) -> Result<(Fields, usize), Refusal>
     ensures { result ≡ kdbx4.walk (length s.now) kdbx4.no_fields s.now 12 }
 {
     let mut f = Fields::none();
     let mut at: usize = 12;
-    let mut left = s.len();
-    while 0 < left {
-        match field_here(f, s, at) {
-            Field::Refused(r) => return Walked::Refused(r),
-            Field::At(id, p) => {
-                let end = p.start + p.length;
-                if id == 0 {
-                    if ends_right(s, p) {
-                        return Walked::Ended(f, end);
-                    }
-                    return Walked::Refused(Refusal::WrongSize(fields::begin(p)));
-                }
-                let g = put(f, id, p);
-                f = g;
-                at = end;
+    for _ in 0..s.len() {
+        let (id, p) = field_here(f, s, at)?;
+        at = p.start + p.length;
+        if id == 0 {
+            if ends_right(s, p) {
+                return Ok((f, at));
             }
+            return Err(Refusal::WrongSize(fields::begin(p)));
         }
-        left -= 1;
+        f = put(f, id, p);
     }
-    Walked::Refused(Refusal::CutShort(s.len()))
+    Err(Refusal::CutShort(s.len()))
 }

@@ -4,11 +4,9 @@
 --   answer p          a padding's length as the check answers it
 --   wrong_bits i p x  one byte's part in the check
 -- Assumes nothing.
-use Rattle.std.specs.Prelude.{cond, List, ℕ, ◌+◌, eqb, ltb, length, take}
+use Rattle.std.specs.Prelude.{cond, List, ℕ, ◌+◌, eqb, ltb, length, take, Option, Some, None}
 use Rattle.std.specs.Int.Bits.{bit_xor}
 use Rattle.slices.specs.Over.{over}
-use Rattle.pkcs7.specs.declared.Padding.{Padding}
-use Rattle.pkcs7.specs.declared.Padding.TheVariants.{Of, Wrong}
 use Rattle.pkcs7.specs.Pkcs7.{pad}
 
 -- the first n bytes of d padded, over d, as far as d has room
@@ -16,8 +14,8 @@ unfoldable pub padded : ℕ → List ℕ → List ℕ
 padded n d = over (take (length d) (pad (take n d))) d
 
 -- a padding's length as an answer, where 0 is no padding
-unfoldable pub answer : ℕ → Padding
-answer p = cond (eqb p 0) Wrong (Of p)
+unfoldable pub answer : ℕ → Option ℕ
+answer p = cond (eqb p 0) None (Some p)
 
 -- the bits in which the byte x at place i of sixteen differs from what it must be where the last p are p
 unfoldable pub wrong_bits : ℕ → ℕ → ℕ → ℕ

@@ -4,12 +4,10 @@
 --   said    how many bytes pad the piece
 -- Not here: what the answer is (Answer).
 -- Assumes nothing.
-use Rattle.std.specs.Prelude.{[], ◌∷◌}
+use Rattle.std.specs.Prelude.{[], ◌∷◌, ℕ, Option, Some, None}
 use Rattle.refusals.specs.Numbers.{Said, success, refused}
 use Rattle.refusals.specs.declared.Refusal.TheVariants.{WrongPadding}
-use Rattle.pkcs7.specs.declared.Padding.{Padding}
-use Rattle.pkcs7.specs.declared.Padding.TheVariants.{Of, Wrong}
 
-abbrev pub said : Padding → Said
-said (Of p) = success (p ∷ [])
-said Wrong = refused 1 WrongPadding
+abbrev pub said : Option ℕ → Said
+said (Some p) = success (p ∷ [])
+said None = refused 1 WrongPadding

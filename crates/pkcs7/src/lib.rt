@@ -12,32 +12,23 @@ ghost use Rattle.pkcs7.specs.Answers as answers;
 
 use refusals::Refusal;
 
-// What the check of a last piece finds: how many bytes pad it, or that its padding is wrong.
-#[derive(Clone, Copy)]
-pub enum Padding {
-    Of(u8),
-    Wrong,
+// The number of what the check of a last piece finds: 0, or 16.
+pub fn padding_number(padding: Option<u8>) -> u8
+    ensures { result ≡ (answers.said padding).number }
+{
+    match padding {
+        Some(_) => 0,
+        None => Refusal::WrongPadding.number(),
+    }
 }
 
-impl Padding {
-    // The number of the answer: 0, or 16.
-    pub fn number(self) -> u8
-        ensures { result ≡ (answers.said self).number }
-    {
-        match self {
-            Padding::Of(_) => 0,
-            Padding::Wrong => Refusal::WrongPadding.number(),
-        }
-    }
-
-    // How many bytes pad the piece: 0 where the padding is wrong.
-    pub fn value(self) -> u8
-        ensures { result ∷ [] ≡ (answers.said self).values }
-    {
-        match self {
-            Padding::Of(p) => p,
-            Padding::Wrong => 0,
-        }
+// How many bytes pad the piece: 0 where the padding is wrong.
+pub fn padding_value(padding: Option<u8>) -> u8
+    ensures { result ∷ [] ≡ (answers.said padding).values }
+{
+    match padding {
+        Some(p) => p,
+        None => 0,
     }
 }
 
@@ -71,8 +62,8 @@ fn wrong_bits(i: usize, p: u8, x: u8) -> u8
     x ^ p
 }
 
-// Checks the padding of the last piece.
-pub fn check(piece: [u8; 16]) -> Padding
+// How many bytes pad the last piece: none where its padding is wrong.
+pub fn check(piece: [u8; 16]) -> Option<u8>
     ensures value { result ≡ answer (pkcs7.padding piece) }
     ensures result_value { answers.said result ≡ answers.said (answer (pkcs7.padding piece)) }
 {
@@ -82,13 +73,13 @@ pub fn check(piece: [u8; 16]) -> Padding
         d |= wrong_bits(i, p, piece[i]);
     }
     if p == 0 {
-        return Padding::Wrong;
+        return None;
     }
     if 16 < p {
-        return Padding::Wrong;
+        return None;
     }
     if d == 0 {
-        return Padding::Of(p);
+        return Some(p);
     }
-    Padding::Wrong
+    None
 }

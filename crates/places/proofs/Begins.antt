@@ -7,33 +7,34 @@ use mathlib.Core.List.{List}
 use Prim.Native.Nat.{ℕ}
 use lib.ListN.{length}
 use Rattle.dictionary.specs.Dictionary.{verdict, search_from, find_in, find}
-use Rattle.dictionary.specs.declared.Verdict.{Verdict}
-use Rattle.dictionary.specs.declared.Verdict.TheVariants as verdict_is
-use Rattle.dictionary.specs.declared.Found.{Found}
-use Rattle.dictionary.specs.declared.Found.TheVariants as found
+use Rattle.std.specs.Prelude.{Result, Ok, Err, Option, Some, None}
+use Rattle.dictionary.specs.declared.Fault.TheVariants as fault
+use Rattle.dictionary.specs.declared.Fault.{Fault}
+use Rattle.dictionary.specs.declared.Value.{Value}
+use Rattle.refusals.specs.declared.Refusal.{Refusal}
 use Rattle.places.specs.Begins.{PointsToLone, Begins}
 use Rattle.places.proofs.Laws.ItemsAt.{VerdictSays, FoundSays, verdict_points, searched_begins}
 use Rattle.places.proofs.Laws.HeaderAt.{header_points}
 use Rattle.places.proofs.Laws.InnerAt.{inner_points, attachment_points}
 
 -- nothing is said of what is found, or is not there
-abbrev Points : List ℕ → Found → Type 0
-Points d (found.At kind start n) = Unit
-Points d found.Absent = Unit
-Points d (found.Refused r) = PointsToLone d r
+abbrev Points : List ℕ → Result (Option Value) Refusal → Type 0
+Points d (Ok (Some v)) = Unit
+Points d (Ok None) = Unit
+Points d (Err r) = PointsToLone d r
 
 -- a search refuses nothing
-searched_points : (d name : List ℕ) (f : Found) → FoundSays d name f → Points d f
-searched_points d name (found.At kind start n) h = tt
-searched_points d name found.Absent h = tt
-searched_points d name (found.Refused r) h = absurd h
+searched_points : (d name : List ℕ) (f : Result (Option Value) Refusal) → FoundSays d name f → Points d f
+searched_points d name (Ok (Some v)) h = tt
+searched_points d name (Ok None) h = tt
+searched_points d name (Err r) h = absurd h
 
-find_in_points : (d name : List ℕ) (v : Verdict) → VerdictSays d v → Points d (find_in v d name)
+find_in_points : (d name : List ℕ) (v : Result Unit Fault) → VerdictSays d v → Points d (find_in v d name)
 unfolding find_in
-find_in_points d name verdict_is.Sound h =
+find_in_points d name (Ok tt) h =
     searched_points d name (search_from (length d) d 2 name) (searched_begins d name)
-find_in_points d name (verdict_is.Broken at) h = PointsToLone.broken at h
-find_in_points d name (verdict_is.Repeated at) h = PointsToLone.repeated_item at h
+find_in_points d name (Err (fault.Broken at)) h = PointsToLone.broken at h
+find_in_points d name (Err (fault.Repeated at)) h = PointsToLone.repeated_item at h
 
 lone_points : (d name : List ℕ) → Points d (find d name)
 unfolding find

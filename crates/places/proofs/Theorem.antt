@@ -14,16 +14,14 @@ use Rattle.slices.specs.Same.{same}
 use Rattle.refusals.specs.declared.Refusal.{Refusal}
 use Rattle.refusals.specs.declared.Refusal.TheVariants.{Repeated, BrokenDictionary}
 use Rattle.dictionary.specs.Dictionary.{entry_at, name_of, next, verdict, search_from, search_in, find_in, find}
-use Rattle.dictionary.specs.declared.Entry.{Entry}
-use Rattle.dictionary.specs.declared.Entry.TheVariants as entry
-use Rattle.dictionary.specs.declared.Verdict.{Verdict}
-use Rattle.dictionary.specs.declared.Verdict.TheVariants as verdict_is
-use Rattle.dictionary.specs.declared.Found.{Found}
-use Rattle.dictionary.specs.declared.Found.TheVariants as found
+use Rattle.dictionary.specs.declared.Item.{Item}
+use Rattle.dictionary.specs.declared.Fault.TheVariants as fault
+use Rattle.dictionary.specs.declared.Fault.{Fault}
+use Rattle.dictionary.specs.declared.Value.{Value}
 use Rattle.dictionary.proofs.Laws.Within.{verdict-placed}
 use Rattle.outer_header.specs.Kdbx4Header.{header}
 use Rattle.outer_header.specs.declared.Header.{Header}
-use Rattle.outer_header.specs.declared.Reading.TheVariants as read
+use Rattle.std.specs.Prelude.{Ok, Err, Option, Some, None, Result}
 use Rattle.opening.specs.Decryption.{refused}
 use Rattle.vault.specs.Vault.{Begun, start_refused, begun, keys_of, start_in, start, opened_by, opened_in}
 use Rattle.writer.specs.Written.{sizes, writing_with}
@@ -33,19 +31,19 @@ use Rattle.places.proofs.Laws.Inner.{inner_lies, attachment_lies}
 use Rattle.places.proofs.Laws.Zero.{ZeroOpened, ZeroBegun, whole_zero, step_zero, start_at-zero, writing-zero, inner-zero}
 
 -- nothing is said of what is found, or is not there
-abbrev FoundLies : ℕ → Found → Type 0
-FoundLies n (found.At kind start m) = 0 ≤ 0
-FoundLies n found.Absent = 0 ≤ 0
-FoundLies n (found.Refused r) = LiesIn n r
+abbrev FoundLies : ℕ → Result (Option Value) Refusal → Type 0
+FoundLies n (Ok (Some v)) = 0 ≤ 0
+FoundLies n (Ok None) = 0 ≤ 0
+FoundLies n (Err r) = LiesIn n r
 
 -- a search refuses nothing
-search_in_lies : (s name : List ℕ) (n : ℕ) (e : Entry) (rest : ℕ → Found) → ((m : ℕ) → FoundLies n (rest m))
+search_in_lies : (s name : List ℕ) (n : ℕ) (e : Result (Option Item) ℕ) (rest : ℕ → Result (Option Value) Refusal) → ((m : ℕ) → FoundLies n (rest m))
     → FoundLies n (search_in s name e rest)
 unfolding search_in
-search_in_lies s name n (entry.Item i) rest h =
+search_in_lies s name n (Ok (Some i)) rest h =
     by_bool (same (name_of s i) name) (λ t. rw t (omega arith)) (λ t. rw t (h (next i)))
-search_in_lies s name n entry.End rest h = omega arith
-search_in_lies s name n (entry.Broken at) rest h = omega arith
+search_in_lies s name n (Ok None) rest h = omega arith
+search_in_lies s name n (Err at) rest h = omega arith
 
 search_lies : (k : ℕ) (s : List ℕ) (at : ℕ) (name : List ℕ) (n : ℕ) → FoundLies n (search_from k s at name)
 unfolding search_from
@@ -53,35 +51,35 @@ search_lies zero s at name n = omega arith
 search_lies (suc k) s at name n =
     search_in_lies s name n (entry_at s at) (λ (m : ℕ). search_from k s m name) (λ m. search_lies k s m name n)
 
-find_in_lies : (d name : List ℕ) (v : Verdict) → 0 < length d → v ≡ verdict d → FoundLies (length d) (find_in v d name)
+find_in_lies : (d name : List ℕ) (v : Result Unit Fault) → 0 < length d → v ≡ verdict d → FoundLies (length d) (find_in v d name)
 unfolding find_in
-find_in_lies d name verdict_is.Sound h e = search_lies (length d) d 2 name (length d)
-find_in_lies d name (verdict_is.Broken at) h e = let w = rw (sym e) at (verdict-placed d) in omega arith
-find_in_lies d name (verdict_is.Repeated at) h e = let w = rw (sym e) at (verdict-placed d) in omega arith
+find_in_lies d name (Ok tt) h e = search_lies (length d) d 2 name (length d)
+find_in_lies d name (Err (fault.Broken at)) h e = let w = rw (sym e) at (verdict-placed d) in omega arith
+find_in_lies d name (Err (fault.Repeated at)) h e = let w = rw (sym e) at (verdict-placed d) in omega arith
 
 lone_lies : (d name : List ℕ) → 0 < length d → FoundLies (length d) (find d name)
 unfolding find
 lone_lies d name h = find_in_lies d name (verdict d) h refl
 
-lone_empty : (name : List ℕ) → find [] name ≡ found.Refused (BrokenDictionary 0)
+lone_empty : (name : List ℕ) → find [] name ≡ Err (BrokenDictionary 0)
 unfolding find find_in verdict
 lone_empty name = refl
 
-check_broken : (d name : List ℕ) (at : ℕ) → verdict d ≡ verdict_is.Broken at
-    → find d name ≡ found.Refused (BrokenDictionary at)
+check_broken : (d name : List ℕ) (at : ℕ) → verdict d ≡ Err (fault.Broken at)
+    → find d name ≡ Err (BrokenDictionary at)
 unfolding find find_in
 check_broken d name at e = rw e
 
-check_repeated : (d name : List ℕ) (at : ℕ) → verdict d ≡ verdict_is.Repeated at
-    → find d name ≡ found.Refused (Repeated at)
+check_repeated : (d name : List ℕ) (at : ℕ) → verdict d ≡ Err (fault.Repeated at)
+    → find d name ≡ Err (Repeated at)
 unfolding find find_in
 check_repeated d name at e = rw e
 
-start_says : (t f : List ℕ) (r : Refusal) → header f ≡ read.Refused r → start t f ≡ start_refused r
+start_says : (t f : List ℕ) (r : Refusal) → header f ≡ Err r → start t f ≡ start_refused r
 unfolding start start_in
 start_says t f r e = rw e
 
-start_behind : (t f : List ℕ) (h : Header) → header f ≡ read.Header h → ZeroBegun (start t f)
+start_behind : (t f : List ℕ) (h : Header) → header f ≡ Ok h → ZeroBegun (start t f)
 unfolding start start_in
 start_behind t f h e = rw e (start_at-zero f h.length (keys_of t f h))
 
@@ -90,11 +88,11 @@ unfolding opened_by
 opened_behind f n (start_refused r) z = z
 opened_behind f n (begun k p) z = whole_zero k f p n
 
-whole_behind : (t f : List ℕ) (n : ℕ) (h : Header) → header f ≡ read.Header h → ZeroOpened (opened_in t f n)
+whole_behind : (t f : List ℕ) (n : ℕ) (h : Header) → header f ≡ Ok h → ZeroOpened (opened_in t f n)
 unfolding opened_in
 whole_behind t f n h e = opened_behind f n (start t f) (start_behind t f h e)
 
-whole_says : (t f : List ℕ) (n : ℕ) (r : Refusal) → header f ≡ read.Refused r → opened_in t f n ≡ refused r
+whole_says : (t f : List ℕ) (n : ℕ) (r : Refusal) → header f ≡ Err r → opened_in t f n ≡ refused r
 unfolding opened_in opened_by
 whole_says t f n r e = rw (start_says t f r e)
 

@@ -10,10 +10,9 @@
 -- ItemAt, ItemOf, ItemAgain. The readers' walks and searches are not cited there.
 -- Not here: that a place lies inside the input (Places).
 -- Assumes nothing.
-use Rattle.std.specs.Prelude.{◌≡◌, false, List, [], ◌∷◌, ℕ, ◌+◌, ◌<◌, length, get_or, take, drop}
+use Rattle.std.specs.Prelude.{◌≡◌, false, List, [], ◌∷◌, ℕ, ◌+◌, ◌<◌, length, get_or, take, drop, Some, None, Err}
 use Rattle.words.specs.Endian.{le}
 use Rattle.words.specs.Size.{int32}
-use Rattle.words.specs.declared.le.Size.TheVariants.{Of}
 use Rattle.refusals.specs.declared.Refusal.{Refusal}
 use Rattle.refusals.specs.declared.Refusal.TheVariants.{
   TooLong,
@@ -34,9 +33,7 @@ use Rattle.fields.specs.Fields.{fits}
 use Rattle.fields.specs.declared.SizeRule.{SizeRule}
 use Rattle.ciphers.specs.Ciphers.{cipher_of, nonce_length}
 use Rattle.ciphers.specs.declared.Cipher.{Cipher}
-use Rattle.ciphers.specs.declared.Identified.TheVariants.{As, Unlisted as NoCipher}
 use Rattle.dictionary.specs.Dictionary.{find}
-use Rattle.dictionary.specs.declared.Found.TheVariants as found
 use Rattle.kdf_dictionary.specs.Kdf.{
   uuid_name,
   salt_name,
@@ -49,10 +46,7 @@ use Rattle.kdf_dictionary.specs.Kdf.{
   associated_name,
 }
 use Rattle.outer_header.specs.Kdbx4Header.{listed, size_rule, header}
-use Rattle.outer_header.specs.declared.Reading.TheVariants as read
 use Rattle.inner_header.specs.InnerHeader.{rule_of, algorithm_listed, inner, attachment}
-use Rattle.inner_header.specs.declared.Read.TheVariants as payload
-use Rattle.inner_header.specs.declared.Attachment.TheVariants as attached
 use Rattle.places.specs.Items.{
   ItemOf,
   ItemAgain,
@@ -74,7 +68,7 @@ use Rattle.places.specs.Items.{
 -- not the end field
 pub data FieldAt (s : List ℕ) (from : ℕ) : ℕ → Type 0 where
   front : FieldAt s from from
-  behind : (at size : ℕ) → FieldAt s from at → 0 < get_or s at 0 → int32 (le 4 s (at + 1)) ≡ Of size
+  behind : (at size : ℕ) → FieldAt s from at → 0 < get_or s at 0 → int32 (le 4 s (at + 1)) ≡ Some size
       → FieldAt s from (at + 5 + size)
 
 -- the field of an ID begins at a place
@@ -92,13 +86,13 @@ pub record FieldAgain (s : List ℕ) (from at : ℕ) : Type 0 where
 
 -- the size that stands at a field is not the rule's: it is negative, or another one
 abbrev pub WrongSized : SizeRule → List ℕ → ℕ → Type 0
-WrongSized rule s at = (n : ℕ) → int32 (le 4 s (at + 1)) ≡ Of n → fits rule n ≡ false
+WrongSized rule s at = (n : ℕ) → int32 (le 4 s (at + 1)) ≡ Some n → fits rule n ≡ false
 
 -- the field of an ID begins at a place, and P holds of its value
 pub record ValueOf (P : List ℕ → Type 0) (f : List ℕ) (id at : ℕ) : Type 0 where
   pub field : FieldOf f 12 id at
   pub size : ℕ
-  pub size_is : int32 (le 4 f (at + 1)) ≡ Of size
+  pub size_is : int32 (le 4 f (at + 1)) ≡ Some size
   pub holds : P (take size (drop (at + 5) f))
 
 -- a place of a file, in the dictionary that is the value of the field of an ID: P of the dictionary and the place in it
@@ -119,8 +113,8 @@ pub data PointsTo (f : List ℕ) : Refusal → Type 0 where
   size : (at : ℕ) → FieldAt f 12 at → WrongSized (size_rule (get_or f at 0)) f at → PointsTo f (WrongSize at)
   end_bytes : (at : ℕ) → FieldOf f 12 0 at → (take 4 (drop (at + 5) f) ≡ 0x0D ∷ 0x0A ∷ 0x0D ∷ 0x0A ∷ [] → ⊥)
       → PointsTo f (WrongSize at)
-  nonce : (at n cipher : ℕ) (c : Cipher) → FieldOf f 12 7 at → int32 (le 4 f (at + 1)) ≡ Of n
-      → ValueOf (λ (v : List ℕ). cipher_of v ≡ As c) f 2 cipher
+  nonce : (at n cipher : ℕ) (c : Cipher) → FieldOf f 12 7 at → int32 (le 4 f (at + 1)) ≡ Some n
+      → ValueOf (λ (v : List ℕ). cipher_of v ≡ Some c) f 2 cipher
       → (n ≡ nonce_length c → ⊥)
       → PointsTo f (WrongSize at)
   repeated_field : (at : ℕ) → FieldAgain f 12 at → PointsTo f (Repeated at)
@@ -128,7 +122,7 @@ pub data PointsTo (f : List ℕ) : Refusal → Type 0 where
   repeated_custom_item : (at : ℕ) → InValue ItemAgain f 12 at → PointsTo f (Repeated at)
   unknown_field : (at : ℕ) → FieldAt f 12 at → listed (get_or f at 0) ≡ false → PointsTo f (UnknownField at)
   absent : (at : ℕ) → FieldOf f 12 0 at → PointsTo f (Absent at)
-  cipher : (at : ℕ) → ValueOf (λ (v : List ℕ). cipher_of v ≡ NoCipher) f 2 at → PointsTo f (Unlisted at)
+  cipher : (at : ℕ) → ValueOf (λ (v : List ℕ). cipher_of v ≡ None) f 2 at → PointsTo f (Unlisted at)
   compression : (at : ℕ) → FieldOf f 12 3 at → (le 4 f (at + 5) ≡ 0 → ⊥) → PointsTo f (Unlisted at)
   kdf : (at : ℕ) → InValue (ItemWith uuid_name NoKdf) f 11 at → PointsTo f (Unlisted at)
   argon2_version : (at : ℕ) → InValue (ItemWith version_name NotVersion) f 11 at → PointsTo f (Unlisted at)
@@ -162,7 +156,7 @@ pub data PointsToLone (d : List ℕ) : Refusal → Type 0 where
 
 -- f is a file, p a payload, d a lone dictionary. The openers say what the header's reader says (Places)
 pub record Begins : Type 0 where
-  pub header_points : (f : List ℕ) (r : Refusal) → header f ≡ read.Refused r → PointsTo f r
-  pub inner_points : (p : List ℕ) (r : Refusal) → inner p ≡ payload.Refused r → PointsToInner p r
-  pub attachment_points : (p : List ℕ) (i : ℕ) (r : Refusal) → attachment p i ≡ attached.Refused r → PointsToInner p r
-  pub dictionary_points : (d name : List ℕ) (r : Refusal) → find d name ≡ found.Refused r → PointsToLone d r
+  pub header_points : (f : List ℕ) (r : Refusal) → header f ≡ Err r → PointsTo f r
+  pub inner_points : (p : List ℕ) (r : Refusal) → inner p ≡ Err r → PointsToInner p r
+  pub attachment_points : (p : List ℕ) (i : ℕ) (r : Refusal) → attachment p i ≡ Err r → PointsToInner p r
+  pub dictionary_points : (d name : List ℕ) (r : Refusal) → find d name ≡ Err r → PointsToLone d r

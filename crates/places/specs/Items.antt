@@ -10,10 +10,9 @@
 -- walks and searches are not cited.
 -- Not here: the fields of a header, and the refusals (Begins).
 -- Assumes nothing.
-use Rattle.std.specs.Prelude.{◌≡◌, true, false, List, ℕ, ◌+◌, ◌*◌, ◌≤◌, ◌<◌, length, get_or, take, drop}
+use Rattle.std.specs.Prelude.{◌≡◌, true, false, List, ℕ, ◌+◌, ◌*◌, ◌≤◌, ◌<◌, length, get_or, take, drop, Some}
 use Rattle.words.specs.Endian.{le}
 use Rattle.words.specs.Size.{int32}
-use Rattle.words.specs.declared.le.Size.TheVariants.{Of}
 use Rattle.refusals.specs.Limits.{rounds_limit, rounds_least, salt_fits, passes_fit, memory_fits, lanes_fit}
 use Rattle.fields.specs.Fields.{fits}
 use Rattle.fields.specs.declared.SizeRule.{SizeRule}
@@ -37,8 +36,8 @@ use Rattle.kdf_dictionary.specs.Kdf.{
 pub record SoundItem (d : List ℕ) (at : ℕ) : Type 0 where
   pub name_size : ℕ
   pub value_size : ℕ
-  pub name_is : int32 (le 4 d (at + 1)) ≡ Of name_size
-  pub value_is : int32 (le 4 d (at + 5 + name_size)) ≡ Of value_size
+  pub name_is : int32 (le 4 d (at + 1)) ≡ Some name_size
+  pub value_is : int32 (le 4 d (at + 5 + name_size)) ≡ Some value_size
   pub within : at + 9 + name_size + value_size ≤ length d
   pub fits_type : size_fits_type (get_or d at 0) value_size ≡ true
 
@@ -55,7 +54,7 @@ pub record ItemAt (d : List ℕ) (at : ℕ) : Type 0 where
 -- the item of a name begins at a place
 pub record ItemOf (name d : List ℕ) (at : ℕ) : Type 0 where
   pub begins : ItemAt d at
-  pub size_is : int32 (le 4 d (at + 1)) ≡ Of (length name)
+  pub size_is : int32 (le 4 d (at + 1)) ≡ Some (length name)
   pub name_is : take (length name) (drop (at + 5) d) ≡ name
 
 -- an item begins at a place, and one of the same name before it

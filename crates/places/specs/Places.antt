@@ -6,20 +6,16 @@
 --   "from writers, hash, tag and blocks it is zero"                        Places: the openers and the writers
 -- Not here: which field or item begins at the place (Begins).
 -- Assumes nothing.
-use Rattle.std.specs.Prelude.{◌≡◌, true, ◌||◌, List, [], ℕ, ◌<◌, eqb, length}
+use Rattle.std.specs.Prelude.{◌≡◌, true, ◌||◌, List, [], ℕ, ◌<◌, eqb, length, Err, Ok}
 use Rattle.refusals.specs.declared.Refusal.{Refusal}
 use Rattle.refusals.specs.declared.Refusal.TheVariants.{TooLong, CutShort, WrongSignature, WrongVersion, WrongSize, Repeated, UnknownField, Absent, Unlisted, BrokenDictionary, TooManyRounds, HeaderHash, HeaderTag, BlockTag, TrailingBytes, WrongPadding, NoRoom, WrongCredential, OutOfSequence, TooFewRounds, FigureOutside}
 use Rattle.refusals.specs.declared.Written.TheVariants as written
 use Rattle.refusals.specs.Numbers.{place_of}
 use Rattle.dictionary.specs.Dictionary.{verdict, find}
-use Rattle.dictionary.specs.declared.Verdict.TheVariants as verdict_is
-use Rattle.dictionary.specs.declared.Found.TheVariants as found
+use Rattle.dictionary.specs.declared.Fault.TheVariants as fault
 use Rattle.outer_header.specs.Kdbx4Header.{header}
 use Rattle.outer_header.specs.declared.Header.{Header}
-use Rattle.outer_header.specs.declared.Reading.TheVariants as read
 use Rattle.inner_header.specs.InnerHeader.{inner, attachment}
-use Rattle.inner_header.specs.declared.Read.TheVariants as payload
-use Rattle.inner_header.specs.declared.Attachment.TheVariants as attached
 use Rattle.inner_header.specs.Writer as inner_writer
 use Rattle.opening.specs.Decryption.{refused}
 use Rattle.opening.specs.Steps.{step_of}
@@ -54,23 +50,23 @@ LiesIn n (FigureOutside at) = at < n
 -- f is a file, t is T, n bytes are lent, p is a payload, d a lone dictionary
 pub record Places : Type 0 where
   -- the readers
-  pub header_lies : (f : List ℕ) (r : Refusal) → header f ≡ read.Refused r → LiesIn (length f) r
-  pub inner_lies : (p : List ℕ) (r : Refusal) → inner p ≡ payload.Refused r → LiesIn (length p) r
-  pub attachment_lies : (p : List ℕ) (i : ℕ) (r : Refusal) → attachment p i ≡ attached.Refused r → LiesIn (length p) r
-  pub dictionary_lies : (d name : List ℕ) (r : Refusal) → 0 < length d → find d name ≡ found.Refused r
+  pub header_lies : (f : List ℕ) (r : Refusal) → header f ≡ Err r → LiesIn (length f) r
+  pub inner_lies : (p : List ℕ) (r : Refusal) → inner p ≡ Err r → LiesIn (length p) r
+  pub attachment_lies : (p : List ℕ) (i : ℕ) (r : Refusal) → attachment p i ≡ Err r → LiesIn (length p) r
+  pub dictionary_lies : (d name : List ℕ) (r : Refusal) → 0 < length d → find d name ≡ Err r
       → LiesIn (length d) r
-  pub dictionary_empty : (name : List ℕ) → find [] name ≡ found.Refused (BrokenDictionary 0)
+  pub dictionary_empty : (name : List ℕ) → find [] name ≡ Err (BrokenDictionary 0)
   -- the check of a lone dictionary says what looking up a name in it says
-  pub check_broken : (d name : List ℕ) (at : ℕ) → verdict d ≡ verdict_is.Broken at
-      → find d name ≡ found.Refused (BrokenDictionary at)
-  pub check_repeated : (d name : List ℕ) (at : ℕ) → verdict d ≡ verdict_is.Repeated at
-      → find d name ≡ found.Refused (Repeated at)
+  pub check_broken : (d name : List ℕ) (at : ℕ) → verdict d ≡ Err (fault.Broken at)
+      → find d name ≡ Err (BrokenDictionary at)
+  pub check_repeated : (d name : List ℕ) (at : ℕ) → verdict d ≡ Err (fault.Repeated at)
+      → find d name ≡ Err (Repeated at)
   -- the openers say what the header's reader says, and behind an accepted header the place is zero
-  pub start_header : (t f : List ℕ) (r : Refusal) → header f ≡ read.Refused r → start t f ≡ start_refused r
-  pub start_zero : (t f : List ℕ) (h : Header) (r : Refusal) → header f ≡ read.Header h → start t f ≡ start_refused r
+  pub start_header : (t f : List ℕ) (r : Refusal) → header f ≡ Err r → start t f ≡ start_refused r
+  pub start_zero : (t f : List ℕ) (h : Header) (r : Refusal) → header f ≡ Ok h → start t f ≡ start_refused r
       → place_of r ≡ 0
-  pub whole_header : (t f : List ℕ) (n : ℕ) (r : Refusal) → header f ≡ read.Refused r → opened_in t f n ≡ refused r
-  pub whole_zero : (t f : List ℕ) (n : ℕ) (h : Header) (r : Refusal) → header f ≡ read.Header h
+  pub whole_header : (t f : List ℕ) (n : ℕ) (r : Refusal) → header f ≡ Err r → opened_in t f n ≡ refused r
+  pub whole_zero : (t f : List ℕ) (n : ℕ) (h : Header) (r : Refusal) → header f ≡ Ok h
       → opened_in t f n ≡ refused r
       → place_of r ≡ 0
   pub step_zero : (f : List ℕ) (o : Opener) (n : ℕ) (r : Refusal) → (step_of f o n).answer.written ≡ written.Refused r

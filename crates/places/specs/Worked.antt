@@ -4,7 +4,7 @@
 -- Its fields begin at 12 (cipher), 33 (compression), 42 (seed), 79 (nonce), 96 (KDF) and 194 (end); the KDF dictionary at
 -- 101, with its items at 103 (`$UUID`), 133 (`R`) and 151 (`S`).
 -- Assumes nothing.
-use Rattle.std.specs.Prelude.{◌≡◌, List, [], ◌∷◌, ◌++◌, ℕ, replicate}
+use Rattle.std.specs.Prelude.{◌≡◌, List, [], ◌∷◌, ◌++◌, ℕ, replicate, Err}
 use Rattle.words.specs.Endian.{le_bytes}
 use Rattle.refusals.specs.declared.Refusal.TheVariants.{CutShort, WrongSignature, WrongVersion, WrongSize, Repeated, UnknownField, Absent, Unlisted, BrokenDictionary, TooManyRounds, TooFewRounds}
 use Rattle.fields.specs.Fields.{field_bytes}
@@ -13,7 +13,6 @@ use Rattle.ciphers.specs.declared.Cipher.TheVariants.{ChaCha20}
 use Rattle.dictionary.specs.Dictionary.{item_bytes}
 use Rattle.kdf_dictionary.specs.Kdf.{aes_kdf_uuid, uuid_name, salt_name, rounds_name}
 use Rattle.outer_header.specs.Kdbx4Header.{header}
-use Rattle.outer_header.specs.declared.Reading.TheVariants as read
 
 -- signatures and version
 abbrev pub front : ℕ → ℕ → List ℕ
@@ -60,31 +59,31 @@ abbrev pub with_fields : List ℕ → List ℕ
 with_fields more = good ++ cipher ++ compression 0 ++ seed ++ nonce 12 ++ kdf sound ++ more ++ end
 
 pub record WorkedPlaces : Type 0 where
-  pub second_signature : header (front 0x9AA2D903 0x40001 ++ cipher ++ end) ≡ read.Refused (WrongSignature 4)
-  pub other_version : header (front 0xB54BFB67 0x40002 ++ cipher ++ end) ≡ read.Refused (WrongVersion 8)
-  pub cut_short : header (good ++ cipher ++ compression 0) ≡ read.Refused (CutShort 42)
+  pub second_signature : header (front 0x9AA2D903 0x40001 ++ cipher ++ end) ≡ Err (WrongSignature 4)
+  pub other_version : header (front 0xB54BFB67 0x40002 ++ cipher ++ end) ≡ Err (WrongVersion 8)
+  pub cut_short : header (good ++ cipher ++ compression 0) ≡ Err (CutShort 42)
   pub other_cipher : header (good ++ field_bytes 2 (replicate 16 0) ++ compression 0 ++ seed ++ nonce 12 ++ kdf sound ++ end)
-      ≡ read.Refused (Unlisted 12)
+      ≡ Err (Unlisted 12)
   pub compressed : header (good ++ cipher ++ compression 1 ++ seed ++ nonce 12 ++ kdf sound ++ end)
-      ≡ read.Refused (Unlisted 33)
+      ≡ Err (Unlisted 33)
   pub other_nonce : header (good ++ cipher ++ compression 0 ++ seed ++ nonce 16 ++ kdf sound ++ end)
-      ≡ read.Refused (WrongSize 79)
-  pub no_kdf : header (good ++ cipher ++ compression 0 ++ seed ++ nonce 12 ++ end) ≡ read.Refused (Absent 96)
-  pub second_seed : header (with_fields seed) ≡ read.Refused (Repeated 194)
-  pub unknown_field : header (with_fields (field_bytes 1 [])) ≡ read.Refused (UnknownField 194)
+      ≡ Err (WrongSize 79)
+  pub no_kdf : header (good ++ cipher ++ compression 0 ++ seed ++ nonce 12 ++ end) ≡ Err (Absent 96)
+  pub second_seed : header (with_fields seed) ≡ Err (Repeated 194)
+  pub unknown_field : header (with_fields (field_bytes 1 [])) ≡ Err (UnknownField 194)
   pub wrong_end : header (good ++ cipher ++ compression 0 ++ seed ++ nonce 12 ++ kdf sound ++ field_bytes 0 (replicate 4 0))
-      ≡ read.Refused (WrongSize 194)
-  pub other_kdf : header (with_kdf (dictionary (replicate 16 0) 6_000 salted (0x00 ∷ []))) ≡ read.Refused (Unlisted 103)
-  pub one_round : header (with_kdf (dictionary aes_kdf_uuid 1 salted (0x00 ∷ []))) ≡ read.Refused (TooFewRounds 133)
+      ≡ Err (WrongSize 194)
+  pub other_kdf : header (with_kdf (dictionary (replicate 16 0) 6_000 salted (0x00 ∷ []))) ≡ Err (Unlisted 103)
+  pub one_round : header (with_kdf (dictionary aes_kdf_uuid 1 salted (0x00 ∷ []))) ≡ Err (TooFewRounds 133)
   pub many_rounds : header (with_kdf (dictionary aes_kdf_uuid 4_000_001 salted (0x00 ∷ [])))
-      ≡ read.Refused (TooManyRounds 133)
+      ≡ Err (TooManyRounds 133)
   pub short_salt : header (with_kdf (dictionary aes_kdf_uuid 6_000 (replicate 31 0x33) (0x00 ∷ [])))
-      ≡ read.Refused (BrokenDictionary 151)
+      ≡ Err (BrokenDictionary 151)
   -- behind the three items, at 193 of the file
   pub second_rounds : header (with_kdf (dictionary aes_kdf_uuid 6_000 salted (item_bytes 0x04 rounds_name (le_bytes 4 0) ++ (0x00 ∷ []))))
-      ≡ read.Refused (Repeated 193)
+      ≡ Err (Repeated 193)
   -- no closing byte: no item's fault
-  pub not_closed : header (with_kdf (dictionary aes_kdf_uuid 6_000 salted [])) ≡ read.Refused (BrokenDictionary 101)
-  pub no_items : header (with_kdf (0x00 ∷ 0x01 ∷ 0x00 ∷ [])) ≡ read.Refused (BrokenDictionary 101)
+  pub not_closed : header (with_kdf (dictionary aes_kdf_uuid 6_000 salted [])) ≡ Err (BrokenDictionary 101)
+  pub no_items : header (with_kdf (0x00 ∷ 0x01 ∷ 0x00 ∷ [])) ≡ Err (BrokenDictionary 101)
   -- a custom dictionary of no bytes begins behind the five bytes of its field
-  pub empty_custom : header (with_fields (field_bytes 12 [])) ≡ read.Refused (BrokenDictionary 199)
+  pub empty_custom : header (with_fields (field_bytes 12 [])) ≡ Err (BrokenDictionary 199)

@@ -27,13 +27,12 @@ use Rattle.refusals.proofs.Laws.Limits.{argon2_fits_bounds, bounds_argon2_fits}
 use Rattle.ciphers.specs.Ciphers.{identifier, cipher_of, nonce_length}
 use Rattle.ciphers.specs.declared.Cipher.{Cipher}
 use Rattle.ciphers.specs.declared.Cipher.TheVariants.{Aes256, ChaCha20}
-use Rattle.ciphers.specs.declared.Identified.TheVariants as identified
+use Rattle.std.specs.Prelude.{Some, Ok}
 use Rattle.ciphers.proofs.Laws.{cipher_of-identifier, nonce_length-le}
 use Rattle.kdf_dictionary.specs.Kdf.{kdf_length, IsWritable}
 use Rattle.kdf_dictionary.specs.declared.writer.Figures.{Figures as KdfFigures}
 use Rattle.kdf_dictionary.specs.declared.writer.Figures.TheVariants as kdf
 use Rattle.header_writer.specs.Written.{custom_verdict, header_length}
-use Rattle.header_writer.specs.declared.Checked.TheVariants.{As}
 use Rattle.header_writer.proofs.Laws.CheckedLaws.{checked_as, as_checked}
 use Rattle.cutting.specs.Cutting.{block_count}
 use Rattle.writer.specs.Written.{Figures, sizes, settled, header_of, file_cut, file_bytes, checked_of, writing, shown}
@@ -58,7 +57,7 @@ writable_kdf (kdf.Argon2d passes memory lanes) n h = argon2_fits_bounds n passes
 writable_kdf (kdf.Argon2id passes memory lanes) n h = argon2_fits_bounds n passes memory lanes h
 
 -- an identifier that names a cipher is the cipher's
-named_identifier : (id : List ℕ) (c : Cipher) → cipher_of id ≡ identified.As c → id ≡ identifier c
+named_identifier : (id : List ℕ) (c : Cipher) → cipher_of id ≡ Some c → id ≡ identifier c
 unfolding cipher_of
 named_identifier id c =
     by_bool (same id (identifier Aes256))
@@ -69,7 +68,7 @@ named_identifier id c =
     (λ b. rw (a, b) (λ e. let z : ◌≡◌ {A = ℕ} 0 1 = cc e in absurd (omega arith))))
 
 -- figures that pass the header's checks
-module _ (g : Figures) (c : Cipher) (t b : List ℕ) (e : checked_of g ≡ As c) where
+module _ (g : Figures) (c : Cipher) (t b : List ℕ) (e : checked_of g ≡ Ok c) where
   sized : Sized c g.seed g.nonce g.salt
   unfolding checked_of
   sized = checked-sized g.minor g.cipher g.seed g.nonce g.kdf g.salt g.custom c e
@@ -79,7 +78,7 @@ module _ (g : Figures) (c : Cipher) (t b : List ℕ) (e : checked_of g ≡ As c)
   length-file_bytes =
       length-file g.minor c g.seed g.nonce g.kdf g.salt g.custom sized t b
 
-checked_writable : (g : Figures) (c : Cipher) (b : List ℕ) (n : ℕ) → Writable g c b n → checked_of g ≡ As c
+checked_writable : (g : Figures) (c : Cipher) (b : List ℕ) (n : ℕ) → Writable g c b n → checked_of g ≡ Ok c
 unfolding checked_of
 checked_writable g c b n w =
     as_checked g.minor g.cipher g.seed g.nonce g.kdf g.salt g.custom c
@@ -93,7 +92,7 @@ checked_writable g c b n w =
     })
 
 -- figures that pass the header's checks are written, where payload and file are within their limits and there is room
-pub checked_writes : (g : Figures) (c : Cipher) (t b : List ℕ) (n : ℕ) → checked_of g ≡ As c → Fits g c b n
+pub checked_writes : (g : Figures) (c : Cipher) (t b : List ℕ) (n : ℕ) → checked_of g ≡ Ok c → Fits g c b n
     → writing g t b n ≡ written.Wrote (size_of g c b)
 checked_writes g c t b n e f =
     sym (writing_as g c t b n e)

@@ -24,17 +24,15 @@ use Rattle.kdf_dictionary.specs.Kdf.{IsWritable}
 use Rattle.kdf_dictionary.specs.KdfDictionary.{aes_kdf_in, kdf_of}
 use Rattle.kdf_dictionary.specs.declared.AesKdf.{AesKdf}
 use Rattle.kdf_dictionary.specs.declared.Kdf.TheVariants as kdf
-use Rattle.kdf_dictionary.specs.declared.Reading.TheVariants as asks
+use Rattle.std.specs.Prelude.{Err, Ok}
 use Rattle.kdf_dictionary.specs.declared.writer.Figures.{Figures as KdfFigures}
 use Rattle.kdf_dictionary.specs.declared.writer.Figures.TheVariants as figures
 use Rattle.kdf_dictionary.proofs.Laws.Asks.{IsAsked}
 use Rattle.outer_header.specs.Kdbx4Header.{header}
 use Rattle.outer_header.specs.declared.Header.{Header}
-use Rattle.outer_header.specs.declared.Reading.TheVariants as read
 use Rattle.outer_header.proofs.Laws.Accepted.{header_stands}
 use Rattle.header_writer.specs.Written.{custom_verdict, header_bytes, checked_custom, salt_sized, checked_figures, checked_sizes, checked_cipher, checked}
 use Rattle.header_writer.specs.ReadsBack.{rounds_item, written_header}
-use Rattle.header_writer.specs.declared.Checked.TheVariants.{As, Refused}
 use Rattle.header_writer.proofs.Laws.CheckedLaws.{checked_as}
 use Rattle.header_writer.proofs.RoundTrip.{header_read_back, header_few}
 use Rattle.opening.specs.Decryption.{refused}
@@ -67,17 +65,17 @@ module _ (c : Cipher) (rounds : ℕ) (g : Figures) (a : Asks c rounds g) where
         eq-eqb (length g.salt) 32 a.kdf_seed_long,
       )
 
-  checked_few : rounds < rounds_least → checked_of g ≡ Refused (TooFewRounds 0)
+  checked_few : rounds < rounds_least → checked_of g ≡ Err (TooFewRounds 0)
   unfolding checked_figures
   checked_few few =
       let within : rounds ≤ rounds_limit = omega (arith, rounds_some) in
       checked_asks ∙ rw (le-leb rounds rounds_limit within, lt-leb rounds_least rounds few)
 
-  pub checked_many : rounds_limit < rounds → checked_of g ≡ Refused (TooManyRounds 0)
+  pub checked_many : rounds_limit < rounds → checked_of g ≡ Err (TooManyRounds 0)
   unfolding checked_figures
   checked_many many = checked_asks ∙ rw (lt-leb rounds rounds_limit many)
 
-  checked_enough : rounds_least ≤ rounds → rounds ≤ rounds_limit → custom_verdict g.custom ≡ Accepted → checked_of g ≡ As c
+  checked_enough : rounds_least ≤ rounds → rounds ≤ rounds_limit → custom_verdict g.custom ≡ Accepted → checked_of g ≡ Ok c
   unfolding checked_figures checked_custom
   checked_enough enough within sound =
       checked_asks ∙ rw (le-leb rounds rounds_limit within, le-leb rounds_least rounds enough, sound)
@@ -87,7 +85,7 @@ module _ (c : Cipher) (rounds : ℕ) (g : Figures) (a : Asks c rounds g) where
   header_is = rw a.with_aes_kdf
 
   read_few : rounds < rounds_least → (rest : List ℕ) → length (header_of g c ++ rest) ≤ file_limit
-      → header (header_of g c ++ rest) ≡ read.Refused (TooFewRounds (rounds_item c))
+      → header (header_of g c ++ rest) ≡ Err (TooFewRounds (rounds_item c))
   read_few few rest =
       rw header_is (λ f. header_few g.minor c g.seed g.nonce rounds g.salt g.custom rest a.minor_le
       a.seed_long a.nonce_long a.kdf_seed_long few f)
@@ -95,19 +93,19 @@ module _ (c : Cipher) (rounds : ℕ) (g : Figures) (a : Asks c rounds g) where
   read_enough : rounds_least ≤ rounds → rounds ≤ rounds_limit → custom_verdict g.custom ≡ Accepted
       → (rest : List ℕ) → length (header_of g c ++ rest) ≤ file_limit
       → header (header_of g c ++ rest)
-      ≡ read.Header (written_header g.minor c (figures.AesKdf rounds) 32 (length g.custom))
+      ≡ Ok (written_header g.minor c (figures.AesKdf rounds) 32 (length g.custom))
   unfolding checked_of
   read_enough enough within sound rest =
       let e = sym (ap (λ (k : KdfFigures). checked g.minor g.cipher g.seed g.nonce k g.salt g.custom)
       a.with_aes_kdf) ∙ checked_enough enough within sound in
       rw header_is (λ f. (header_read_back g.minor g.cipher g.seed g.nonce (figures.AesKdf rounds) g.salt
       g.custom c rest e f).header_is
-      ∙ ap (λ (l : ℕ). read.Header (written_header g.minor c (figures.AesKdf rounds) l (length g.custom)))
+      ∙ ap (λ (l : ℕ). Ok (written_header g.minor c (figures.AesKdf rounds) l (length g.custom)))
       a.kdf_seed_long)
 
 -- a file that begins with a header of few rounds
 module _ (rounds : ℕ) (s : List ℕ) (i : Begins rounds s) (few : rounds < rounds_least) where
-  kdf_few : kdf_of s i.fields.kdf ≡ asks.Refused (TooFewRounds (rounds_at rounds s i))
+  kdf_few : kdf_of s i.fields.kdf ≡ Err (TooFewRounds (rounds_at rounds s i))
   unfolding aes_kdf_in
   kdf_few =
       let k = i.has_rounds in
@@ -121,7 +119,7 @@ module _ (rounds : ℕ) (s : List ℕ) (i : Begins rounds s) (few : rounds < rou
         lt-leb rounds_least rounds few,
       )
 
-  begins_few : header s ≡ read.Refused (TooFewRounds (rounds_at rounds s i))
+  begins_few : header s ≡ Err (TooFewRounds (rounds_at rounds s i))
   begins_few = begins_refuses rounds s i (TooFewRounds (rounds_at rounds s i)) kdf_few
 
   start_few : (t : List ℕ) → start t s ≡ start_refused (TooFewRounds (rounds_at rounds s i))
@@ -133,7 +131,7 @@ module _ (rounds : ℕ) (s : List ℕ) (i : Begins rounds s) (few : rounds < rou
   whole_few t n = rw (start_few t)
 
 -- an accepted header's rounds
-reader_least : (s : List ℕ) (h : Header) (k : AesKdf) → header s ≡ read.Header h → h.kdf ≡ kdf.AesKdf k
+reader_least : (s : List ℕ) (h : Header) (k : AesKdf) → header s ≡ Ok h → h.kdf ≡ kdf.AesKdf k
     → rounds_least ≤ k.rounds
 reader_least s h k e i =
     let a : IsAsked h.kdf_dictionary (kdf.AesKdf k) = rw i at (header_stands s h e).kdf_stands in

@@ -20,7 +20,7 @@ use Rattle.pkcs7.specs.Pkcs7.{pad, padding}
 use Rattle.pkcs7.proofs.Laws.Padding.{padding-padded, padded-pad, length-pad, bytes_pad}
 use Rattle.ciphers.specs.declared.Cipher.TheVariants.{Aes256}
 use Rattle.aes_cbc.proofs.RoundTrip.{aes_cbc_decrypt_encrypt}
-use Rattle.header_writer.specs.declared.Checked.TheVariants.{As}
+use Rattle.std.specs.Prelude.{Ok}
 use Rattle.block_stream.specs.Blocks.{block_bytes, judge, data_at}
 use Rattle.block_stream.specs.declared.Block.TheVariants.{Data, Closing}
 use Rattle.fips180.specs.Feeds.{joined}
@@ -43,7 +43,7 @@ use Rattle.round_trip.proofs.Theorem.{written_opens}
 use Rattle.round_trip.proofs.Recut.{text_written, front_written}
 use Rattle.round_trip.proofs.LargerBlocks.{length-file_cut}
 
-module _ (g : Figures) (t b : List ℕ) (ok : checked_of g ≡ As Aes256) (short : length (header_of g Aes256) ≡ 207)
+module _ (g : Figures) (t b : List ℕ) (ok : checked_of g ≡ Ok Aes256) (short : length (header_of g Aes256) ≡ 207)
     (nonce_bytes : Bytes g.nonce) (payload-bytes : Bytes b) (low : 16 ≤ length b) (high : length b < 32) where
   abbrev k : Keys
   k = file_keys g Aes256 t

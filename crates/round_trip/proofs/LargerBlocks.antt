@@ -16,7 +16,7 @@ use Rattle.refusals.specs.Limits.{file_limit, written_block}
 use Rattle.refusals.proofs.Laws.Limits.{block_positive, payload_raised, file_raised, block_raised}
 use Rattle.refusals.specs.declared.Written.TheVariants.{Wrote}
 use Rattle.ciphers.specs.declared.Cipher.{Cipher}
-use Rattle.header_writer.specs.declared.Checked.TheVariants.{As}
+use Rattle.std.specs.Prelude.{Ok}
 use Rattle.cutting.specs.Cutting.{cut, blocks_from, cut_length}
 use Rattle.cutting.proofs.Laws.Cut.{length_cut, length-blocks, cut_alike, count_le, count_lt}
 use Rattle.writer.specs.Written.{
@@ -72,7 +72,7 @@ module _ (g : Figures) (c : Cipher) (t b : List ℕ) where
 
   -- sizes r that are no less than the sizes s
   still_taken : (s r : Sizes) → s.payload ≤ r.payload → s.file ≤ r.file → 0 < s.block → s.block ≤ r.block
-      → checked_of g ≡ As c → (n : ℕ) → length b ≤ s.payload → length (file_cut s.block g c t b) ≤ s.file
+      → checked_of g ≡ Ok c → (n : ℕ) → length b ≤ s.payload → length (file_cut s.block g c t b) ≤ s.file
       → length (file_cut s.block g c t b) ≤ n
       → writing_with r g t b n ≡ Wrote (length (file_cut r.block g c t b))
   unfolding writing_with writing_by settled

@@ -14,7 +14,7 @@ use lib.Seq.{take_at, drop_at}
 use Rattle.refusals.specs.Limits.{file_limit, written_block}
 use Rattle.refusals.proofs.Laws.Limits.{block_positive}
 use Rattle.ciphers.specs.declared.Cipher.{Cipher}
-use Rattle.header_writer.specs.declared.Checked.TheVariants.{As}
+use Rattle.std.specs.Prelude.{Ok}
 use Rattle.cutting.specs.Cutting.{pieces, cut, blocks_from, sizes_at, InBlocks}
 use Rattle.cutting.proofs.Laws.Blocks.{blocks_stand}
 use Rattle.cutting.proofs.Laws.Cut.{joined-cut, cut_nonempty, pieces_at, total_at, positive_at}
@@ -84,7 +84,7 @@ module _ (z : ℕ) (some : 0 < z) (g : Figures) (c : Cipher) (t b : List ℕ)
         same_file = e;
       }
 
-pub back_to_written : (g : Figures) (c : Cipher) (t b : List ℕ) → checked_of g ≡ As c
+pub back_to_written : (g : Figures) (c : Cipher) (t b : List ℕ) → checked_of g ≡ Ok c
     → length (file_bytes g c t b) ≤ file_limit
     → (ns : List ℕ) → Cuts (file_keys g c t) (file_bytes g c t b) (first_block_of g c) ns
     → recut_at written_block (file_keys g c t) (recut (file_keys g c t) (file_bytes g c t b) (first_block_of g c) ns)

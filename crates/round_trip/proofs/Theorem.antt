@@ -18,7 +18,7 @@ use Rattle.refusals.specs.Limits.{file_limit, written_block}
 use Rattle.refusals.specs.declared.Written.TheVariants as written
 use Rattle.ciphers.specs.declared.Cipher.{Cipher}
 use Rattle.ciphers.specs.declared.Cipher.TheVariants.{Aes256, ChaCha20}
-use Rattle.header_writer.specs.declared.Checked.TheVariants.{As}
+use Rattle.std.specs.Prelude.{Ok}
 use Rattle.cutting.specs.Cutting.{cut, blocks_from}
 use Rattle.cutting.proofs.Laws.Cut.{length_cut, joined-cut, cut_nonempty}
 use Rattle.opening.specs.declared.Keys.{Keys}
@@ -50,7 +50,7 @@ payload_by_lem Aes256 k b n h = payload_aes k n b h
 payload_by_lem ChaCha20 k b n h = payload_chacha k b
 
 -- the file in blocks of z bytes
-module _ (z : ℕ) (some : 0 < z) (g : Figures) (c : Cipher) (t b : List ℕ) (ok : checked_of g ≡ As c)
+module _ (z : ℕ) (some : 0 < z) (g : Figures) (c : Cipher) (t b : List ℕ) (ok : checked_of g ≡ Ok c)
     (payload-bytes : Bytes b) (nonce_bytes : Bytes g.nonce) (fits : length (file_cut z g c t b) ≤ file_limit) where
   abbrev f : List ℕ
   f = file_cut z g c t b
@@ -91,7 +91,7 @@ module _ (z : ℕ) (some : 0 < z) (g : Figures) (c : Cipher) (t b : List ℕ) (o
       (ap (λ (x : List ℕ). payload k x) (joined-cut z some text) ∙ payload_is))
 
 -- THE THEOREM, for blocks of any positive size
-pub written_opens : (z : ℕ) → 0 < z → (g : Figures) (c : Cipher) (t b : List ℕ) → checked_of g ≡ As c → Bytes b
+pub written_opens : (z : ℕ) → 0 < z → (g : Figures) (c : Cipher) (t b : List ℕ) → checked_of g ≡ Ok c → Bytes b
     → Bytes g.nonce → length (file_cut z g c t b) ≤ file_limit
     → Opens z g c t b (file_cut z g c t b)
 written_opens z some g c t b ok p n fits = opens z some g c t b ok p n fits

@@ -26,10 +26,9 @@ use Rattle.kdf_dictionary.specs.declared.writer.Figures.TheVariants as figures
 use Rattle.kdf_dictionary.proofs.Laws.Layout.{length-kdf_bytes}
 use Rattle.stream.proofs.Laws.Apply.{length-apply}
 use Rattle.fields.specs.Fields.{bytes_at}
-use Rattle.outer_header.specs.declared.Reading.TheVariants as read
+use Rattle.std.specs.Prelude.{Err, Ok}
 use Rattle.outer_header.proofs.Examples.{header_short, custom_negative, custom_long, rounds_most, rounds_more}
 use Rattle.header_writer.specs.Written.{custom_verdict, header_length}
-use Rattle.header_writer.specs.declared.Checked.TheVariants.{As}
 use Rattle.header_writer.proofs.Worked.{length-kdf, length_aes, length_chacha}
 use Rattle.block_stream.specs.Blocks.{block_bytes}
 use Rattle.cutting.specs.Cutting.{cut_in, blocks_from, block_count}
@@ -104,7 +103,7 @@ module _ (c : Cipher) (g : Figures) (p : Plain c g) where
         kdf_seed_long = p.kdf_seed_long;
       }
 
-  checked : checked_of g ≡ As c
+  checked : checked_of g ≡ Ok c
   checked =
       few_rounds.writer_passes c p.rounds g asks p.rounds_enough p.rounds_within
       (no_custom_sound g p.no_custom)
@@ -352,5 +351,5 @@ worked =
       read_5999 = λ c g a rest f. few_rounds.former_refused c 5_999 g a (omega arith) rest f;
       written_6000 = λ c g a v t b n f. asks_writes c 6_000 g a (omega arith) (omega arith) v t b n f;
       written_5999 = λ c g a t b n. few_rounds.writer_refuses c 5_999 g a (omega arith) t b n;
-      eleven = λ s e. header_short s (omega arith) ∙ ap (λ (n : ℕ). read.Refused (CutShort n)) e;
+      eleven = λ s e. header_short s (omega arith) ∙ ap (λ (n : ℕ). Err (CutShort n)) e;
     }

@@ -9,11 +9,10 @@
 -- Not here: that a file in blocks of any one size opens (proofs/Theorem, written_opens), and in any cutting (crate
 -- recutting, same_vault).
 -- Assumes nothing.
-use Rattle.std.specs.Prelude.{◌≡◌, List, ℕ, ◌+◌, ◌≤◌, ◌<◌, length}
+use Rattle.std.specs.Prelude.{◌≡◌, List, ℕ, ◌+◌, ◌≤◌, ◌<◌, length, Ok}
 use Rattle.words.specs.Endian.{Bytes}
 use Rattle.refusals.specs.declared.Written.TheVariants.{Wrote}
 use Rattle.ciphers.specs.declared.Cipher.{Cipher}
-use Rattle.header_writer.specs.declared.Checked.TheVariants.{As}
 use Rattle.cutting.specs.Cutting.{cut}
 use Rattle.recutting.specs.Recut.{IsCutting}
 use Rattle.writer.specs.Written.{
@@ -43,7 +42,7 @@ tags s text = length (cut s.block text) + 1
 -- what comes of an input that the writer took before
 pub record SinceThen (g : Figures) (t b : List ℕ) (n : ℕ) : Type 0 where
   pub cipher : Cipher
-  pub accepted : checked_of g ≡ As cipher
+  pub accepted : checked_of g ≡ Ok cipher
   -- both are files of the same header and ciphertext, each cut at its size
   pub file_before : shown_with before g t b n ≡ file_cut before.block g cipher t b
   pub file_now : shown g t b n ≡ file_cut sizes.block g cipher t b

@@ -4,10 +4,9 @@
 --   WrittenOpens    a success of the writer: what it leaves in the lent bytes is such a file
 -- g are the figures that are written, of any of the three KDFs; c is their cipher, t is T, b the payload.
 -- Assumes nothing.
-use Rattle.std.specs.Prelude.{◌≡◌, List, ℕ, ◌+◌, ◌≤◌, length, take, drop}
+use Rattle.std.specs.Prelude.{◌≡◌, List, ℕ, ◌+◌, ◌≤◌, length, take, drop, Ok}
 use Rattle.refusals.specs.Limits.{written_block}
 use Rattle.ciphers.specs.declared.Cipher.{Cipher}
-use Rattle.header_writer.specs.declared.Checked.TheVariants.{As}
 use Rattle.cutting.specs.Cutting.{block_count}
 use Rattle.opening.specs.declared.Keys.{Keys}
 use Rattle.opening.specs.Steps.{padded}
@@ -31,7 +30,7 @@ Opens z g c t b f =
 -- the writer answered m; `before` are the lent bytes, `after` what they are after the call
 pub record WrittenOpens (g : Figures) (t b before after : List ℕ) (m : ℕ) : Type 0 where
   pub cipher : Cipher
-  pub accepted : checked_of g ≡ As cipher
+  pub accepted : checked_of g ≡ Ok cipher
   -- the count is the file's length, the first m bytes are the file, and those behind it are as they were
   pub count_is : m ≡ length (file_bytes g cipher t b)
   pub room : m ≤ length before

@@ -11,7 +11,7 @@
 -- Document 02, Item 7, puts one data block and a file of 16,743 bytes in the place of "16,384: two, file 16,779"; Item
 -- 3 adds the least rounds, Item 8 the places of refusals.
 -- Assumes nothing.
-use Rattle.std.specs.Prelude.{◌≡◌, false, ◌≢◌, List, [], ◌∷◌, ◌++◌, ℕ, ◌+◌, ◌-◌, ◌≤◌, ◌<◌, length, get_or, take, drop}
+use Rattle.std.specs.Prelude.{◌≡◌, false, ◌≢◌, List, [], ◌∷◌, ◌++◌, ℕ, ◌+◌, ◌-◌, ◌≤◌, ◌<◌, length, get_or, take, drop, Ok, Err}
 use Rattle.words.specs.Endian.{le, Bytes}
 use Rattle.refusals.specs.declared.Refusal.TheVariants.{CutShort, WrongSize, TooManyRounds, TooFewRounds}
 use Rattle.refusals.specs.declared.Outcome.TheVariants as outcome
@@ -24,14 +24,12 @@ use Rattle.ciphers.specs.declared.Cipher.TheVariants.{Aes256, ChaCha20}
 use Rattle.aes_kdf.specs.AesKdf as aes_kdf
 use Rattle.fields.specs.Fields.{end_of, bytes_at}
 use Rattle.fields.specs.declared.Place.{Place}
-use Rattle.fields.specs.declared.Field.TheVariants as field
 use Rattle.kdf_dictionary.specs.Kdf.{salt_name, kdf_bytes}
 use Rattle.kdf_dictionary.specs.KdfDictionary.{item_of, place_in}
 use Rattle.kdf_dictionary.specs.declared.writer.Figures.TheVariants as figures
 use Rattle.kdf_dictionary.specs.declared.Kdf.TheVariants as kdf
 use Rattle.outer_header.specs.Kdbx4Header.{seen, put, no_fields, field_here, custom_of, header}
 use Rattle.outer_header.specs.declared.walk.Fields.{Fields}
-use Rattle.outer_header.specs.declared.Reading.TheVariants as read
 use Rattle.header_writer.specs.Written.{header_bytes, custom_verdict}
 use Rattle.header_writer.specs.ReadsBack.{rounds_item, written_header}
 use Rattle.block_stream.specs.Blocks.{block_bytes}
@@ -124,7 +122,7 @@ pub record Front (s : List ℕ) : Type 0 where
 -- the fields of a file up to a place, each sound and none the end field
 pub data Before (s : List ℕ) : Fields → ℕ → Type 0 where
   none : Before s no_fields 12
-  more : {f : Fields} {at : ℕ} → Before s f at → (id : ℕ) (p : Place) → field_here f s at ≡ field.At id p → id ≢ 0
+  more : {f : Fields} {at : ℕ} → Before s f at → (id : ℕ) (p : Place) → field_here f s at ≡ Ok (id, p) → id ≢ 0
       → Before s (put f id p) (end_of p)
 
 -- a custom dictionary's field with a size, behind any other fields
@@ -196,13 +194,12 @@ pub record WorkedNumbers : Type 0 where
       → length b < 32
       → Has5And27 g t b
   -- "Custom dictionary field of size FFFFFFFF: 5. Of 7FFFFFFF in a short file: 2": the reader of a whole header
-  pub custom_negative : (s : List ℕ) (at : ℕ) → CustomOf 0xFFFFFFFF s at → header s ≡ read.Refused (WrongSize at)
-  pub custom_long : (s : List ℕ) (at : ℕ) → CustomOf 0x7FFFFFFF s at → header s ≡ read.Refused (CutShort (length s))
+  pub custom_negative : (s : List ℕ) (at : ℕ) → CustomOf 0xFFFFFFFF s at → header s ≡ Err (WrongSize at)
+  pub custom_long : (s : List ℕ) (at : ℕ) → CustomOf 0x7FFFFFFF s at → header s ≡ Err (CutShort (length s))
   -- "Rounds 4,000,000 pass, 4,000,001 give 11": the reader of a whole header, whose fields and items stand in any order
   pub read_most : (s : List ℕ) (i : Begins 4_000_000 s) → custom_of s i.fields.custom ≡ outcome.Accepted
       → header s
-      ≡ read.Header
-      (record {
+      ≡ Ok (record {
         minor = i.minor;
         cipher = i.cipher;
         seed = i.fields.seed;
@@ -213,7 +210,7 @@ pub record WorkedNumbers : Type 0 where
         length = i.end;
       })
   pub read_more : (s : List ℕ) (i : Begins 4_000_001 s)
-      → header s ≡ read.Refused (TooManyRounds (rounds_at 4_000_001 s i))
+      → header s ≡ Err (TooManyRounds (rounds_at 4_000_001 s i))
   -- .. the writer
   pub written_most : (c : Cipher) (g : Figures) → Asks c 4_000_000 g → custom_verdict g.custom ≡ outcome.Accepted
       → (t b : List ℕ) (n : ℕ) → Fits g c b n
@@ -229,14 +226,14 @@ pub record WorkedNumbers : Type 0 where
   pub read_6000 : (c : Cipher) (g : Figures) → Asks c 6_000 g → custom_verdict g.custom ≡ outcome.Accepted
       → (rest : List ℕ) → length (header_of g c ++ rest) ≤ file_limit
       → header (header_of g c ++ rest)
-      ≡ read.Header (written_header g.minor c (figures.AesKdf 6_000) 32 (length g.custom))
+      ≡ Ok (written_header g.minor c (figures.AesKdf 6_000) 32 (length g.custom))
   pub read_5999 : (c : Cipher) (g : Figures) → Asks c 5_999 g
       → (rest : List ℕ) → length (header_of g c ++ rest) ≤ file_limit
-      → header (header_of g c ++ rest) ≡ read.Refused (TooFewRounds (rounds_item c))
+      → header (header_of g c ++ rest) ≡ Err (TooFewRounds (rounds_item c))
   pub written_6000 : (c : Cipher) (g : Figures) → Asks c 6_000 g → custom_verdict g.custom ≡ outcome.Accepted
       → (t b : List ℕ) (n : ℕ) → Fits g c b n
       → writing g t b n ≡ Wrote (size_of g c b)
   pub written_5999 : (c : Cipher) (g : Figures) → Asks c 5_999 g
       → (t b : List ℕ) (n : ℕ) → writing g t b n ≡ Refused (TooFewRounds 0)
   -- "Eleven bytes of anything: 2"
-  pub eleven : (s : List ℕ) → length s ≡ 11 → header s ≡ read.Refused (CutShort 11)
+  pub eleven : (s : List ℕ) → length s ≡ 11 → header s ≡ Err (CutShort 11)

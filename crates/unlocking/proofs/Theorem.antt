@@ -30,7 +30,7 @@ use Rattle.kdf_dictionary.specs.declared.Kdf.TheVariants as kdf
 use Rattle.kdf_dictionary.proofs.Laws.Asks.{IsArgon2, IsAsked}
 use Rattle.outer_header.specs.Kdbx4Header.{header}
 use Rattle.outer_header.specs.declared.Header.{Header}
-use Rattle.outer_header.specs.declared.Reading.TheVariants as read
+use Rattle.std.specs.Prelude.{Ok}
 use Rattle.outer_header.proofs.Laws.Accepted.{header_stands}
 use Rattle.unlocking.specs.Unlocking.{inputs_of, argon2_words, key_of, words_of}
 use Rattle.unlocking.proofs.Laws.Key.{placed-length}
@@ -44,7 +44,7 @@ unfolding transformed
 transformed-outcome Accepted i = refl
 transformed-outcome (Refused r) i = refl
 
-module _ (f : List ℕ) (h : Header) (e : header f ≡ read.Header h) (key : List ℕ) (n : length key ≡ 32) (lent : ℕ) where
+module _ (f : List ℕ) (h : Header) (e : header f ≡ Ok h) (key : List ℕ) (n : length key ≡ 32) (lent : ℕ) where
   pub argon2_answers : (y : Kind) (a : Argon2) → IsArgon2 h.kdf_dictionary a
       → (transformed (outcome (inputs_of y a key f) a.memory lent) (inputs_of y a key f)).outcome
       ≡ enough (argon2_words a) lent

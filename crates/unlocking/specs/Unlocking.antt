@@ -15,7 +15,7 @@
 -- p and k are the password and the key file, f is the file, n the length lent, m the words lent.
 -- Not here: the steps one after the other (crate stepping); that they agree with the whole opener (crate vault).
 -- Assumes nothing.
-use Rattle.std.specs.Prelude.{cond, ◌||◌, List, [], ℕ, length}
+use Rattle.std.specs.Prelude.{cond, ◌||◌, List, [], ℕ, length, Result, Ok, Err}
 use Rattle.refusals.specs.declared.Refusal.{Refusal}
 use Rattle.refusals.specs.declared.Refusal.TheVariants.{TooLong}
 use Rattle.refusals.specs.declared.Outcome.{Outcome}
@@ -33,12 +33,10 @@ use Rattle.kdf_dictionary.specs.declared.Argon2.{Argon2}
 use Rattle.kdf_dictionary.specs.declared.Kdf.{Kdf}
 use Rattle.kdf_dictionary.specs.declared.Kdf.TheVariants as kdf
 use Rattle.outer_header.specs.Kdbx4Header.{header}
-use Rattle.outer_header.specs.declared.Reading.{Reading}
-use Rattle.outer_header.specs.declared.Reading.TheVariants as read
+use Rattle.outer_header.specs.declared.Header.{Header}
 use Rattle.stepping.specs.Stepping.{ran_from}
 use Rattle.inner_header.specs.InnerHeader.{inner}
-use Rattle.inner_header.specs.declared.Read.{Read}
-use Rattle.inner_header.specs.declared.Read.TheVariants as payload
+use Rattle.inner_header.specs.declared.Inner.{Inner}
 use Rattle.unlocking.specs.declared.Unlocked.{Unlocked}
 use Rattle.unlocking.specs.declared.Unlocked.TheVariants.{Document, Refused, PayloadRefused}
 
@@ -86,14 +84,14 @@ words_of (kdf.AesKdf k) = 0
 words_of (kdf.Argon2d a) = argon2_words a
 words_of (kdf.Argon2id a) = argon2_words a
 
-unfoldable pub words_needed : Reading → ℕ
-words_needed (read.Refused r) = 0
-words_needed (read.Header h) = words_of h.kdf
+unfoldable pub words_needed : Result Header Refusal → ℕ
+words_needed (Err r) = 0
+words_needed (Ok h) = words_of h.kdf
 
 -- from behind the inner header to the payload's end
-unfoldable pub document_of : Read → ℕ → Unlocked
-document_of (payload.Refused r) n = PayloadRefused r
-document_of (payload.Header i) n = Document i.document n
+unfoldable pub document_of : Result Inner Refusal → ℕ → Unlocked
+document_of (Err r) n = PayloadRefused r
+document_of (Ok i) n = Document i.document n
 
 -- the payload that the steps handed over, or why one was refused
 unfoldable pub answer_of : Outcome → List ℕ → Unlocked
@@ -124,9 +122,9 @@ opening_with k key f n m =
       memory = memory_after k key f m;
     }
 
-unfoldable pub opening_by : Reading → List ℕ → List ℕ → ℕ → List ℕ → Opening
-opening_by (read.Refused r) key f n m = refusing r m
-opening_by (read.Header h) key f n m = opening_with h.kdf key f n m
+unfoldable pub opening_by : Result Header Refusal → List ℕ → List ℕ → ℕ → List ℕ → Opening
+opening_by (Err r) key f n m = refusing r m
+opening_by (Ok h) key f n m = opening_with h.kdf key f n m
 
 unfoldable pub opening_if : Outcome → List ℕ → List ℕ → ℕ → List ℕ → Opening
 opening_if (outcome.Refused r) key f n m = refusing r m

@@ -2,12 +2,11 @@
 //
 // The contracts cite specs/Unlocking. AES-KDF's rounds run by helpings, with the share that is done on standard error
 // (rounds); before a run of Argon2, which has no helpings, its memory and passes stand there.
-ghost use Rattle.std.specs.Prelude.{◌≡◌, true, ◌≤◌, length};
+ghost use Rattle.std.specs.Prelude.{◌≡◌, true, ◌≤◌, length, Ok};
 ghost use Rattle.refusals.specs.Limits.{rounds_limit, argon2_fits};
 ghost use Rattle.fields.specs.Fields.{bytes_at};
 ghost use Rattle.aes_kdf.specs.AesKdf as kdf;
 ghost use Rattle.outer_header.specs.Kdbx4Header.{header};
-ghost use Rattle.outer_header.specs.declared.Reading.TheVariants as read;
 ghost use Rattle.unlocking.specs.Unlocking as unlocking;
 
 use argon2::{Kind, Transformed};
@@ -65,7 +64,7 @@ pub(crate) fn key_of(
     composite: [u8; 32],
     memory: &mut [u64],
 ) -> Transformed
-    requires { header f.now ≡ read.Header h }
+    requires { header f.now ≡ Ok h }
     ensures value { result ≡ unlocking.key_of h.kdf composite f.now (length memory.old) }
     ensures memory_after { memory.new ≡ unlocking.memory_after h.kdf composite f.now memory.old }
 {
@@ -95,7 +94,7 @@ fn argon2_words(a: Argon2) -> usize
 
 // The words of memory that T needs by the KDF of an accepted header.
 pub(crate) fn words_of(f: &[u8], h: Header) -> usize
-    requires { header f.now ≡ read.Header h }
+    requires { header f.now ≡ Ok h }
     ensures { result ≡ unlocking.words_of h.kdf }
 {
     let kdf = h.kdf;

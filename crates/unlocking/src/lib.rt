@@ -10,18 +10,16 @@
 // that Argon2 used are zeros; all others stay.
 #![tactic(auto)]
 
-ghost use Rattle.std.specs.Prelude.{◌≡◌, not, length};
+ghost use Rattle.std.specs.Prelude.{◌≡◌, not, length, Ok};
 ghost use Rattle.refusals.specs.Limits.{program_limit};
 ghost use Rattle.slices.specs.Over.{over};
 ghost use Rattle.keys.specs.Kdbx4Keys as keys;
 ghost use Rattle.outer_header.specs.Kdbx4Header.{header};
-ghost use Rattle.outer_header.specs.declared.Reading.TheVariants as read;
 ghost use Rattle.inner_header.specs.InnerHeader as kdbx4;
 ghost use Rattle.unlocking.specs.Unlocking as unlocking;
 ghost use Rattle.unlocking.specs.Answers as answers;
 
-use inner_header::Read;
-use outer_header::{Header, Reading};
+use outer_header::Header;
 use refusals::{Outcome, Refusal, Written};
 
 pub mod input;
@@ -89,8 +87,8 @@ fn find_document(payload: &[u8]) -> Unlocked
     ensures { result ≡ unlocking.document_of (kdbx4.inner payload.now) (length payload.now) }
 {
     match inner_header::read_header(payload) {
-        Read::Refused(r) => return Unlocked::PayloadRefused(r),
-        Read::Header(i) => return Unlocked::Document(i.document, payload.len()),
+        Err(r) => return Unlocked::PayloadRefused(r),
+        Ok(i) => return Unlocked::Document(i.document, payload.len()),
     }
 }
 
@@ -119,7 +117,7 @@ fn open_with(
     out: &mut [u8],
     memory: &mut [u64],
 ) -> Unlocked
-    requires { header f.now ≡ read.Header h }
+    requires { header f.now ≡ Ok h }
     ensures value { result ≡ (unlocking.opening_with h.kdf composite f.now (length out.old) memory.old).answer }
     ensures out_after { out.new ≡ over (unlocking.opening_with h.kdf composite f.now (length out.old) memory.old).bytes out.old }
     ensures memory_after { memory.new ≡ (unlocking.opening_with h.kdf composite f.now (length out.old) memory.old).memory }
@@ -143,8 +141,8 @@ fn open_by(
     ensures memory_after { memory.new ≡ (unlocking.opening_by (header f.now) composite f.now (length out.old) memory.old).memory }
 {
     match outer_header::read(f) {
-        Reading::Refused(r) => return Unlocked::Refused(r),
-        Reading::Header(h) => return open_with(rt, f, h, composite, out, memory),
+        Err(r) => return Unlocked::Refused(r),
+        Ok(h) => return open_with(rt, f, h, composite, out, memory),
     }
 }
 
@@ -222,7 +220,7 @@ pub fn words_needed(f: &[u8]) -> usize
     ensures { result ≡ unlocking.words_needed (header f.now) }
 {
     match outer_header::read(f) {
-        Reading::Refused(_) => return 0,
-        Reading::Header(h) => return key::words_of(f, h),
+        Err(_) => return 0,
+        Ok(h) => return key::words_of(f, h),
     }
 }

@@ -13,7 +13,7 @@ use Rattle.refusals.specs.Limits.{file_limit}
 use Rattle.fields.specs.Fields.{bytes_at}
 use Rattle.outer_header.specs.Kdbx4Header.{header}
 use Rattle.outer_header.specs.declared.Header.{Header}
-use Rattle.outer_header.specs.declared.Reading.TheVariants as read
+use Rattle.std.specs.Prelude.{Ok}
 use Rattle.opening.specs.declared.Keys.{Keys}
 use Rattle.opening.specs.declared.Phase.TheVariants.{Ended}
 use Rattle.opening.specs.Decryption.{refused}
@@ -54,7 +54,7 @@ firsts_by t f k l p e s g lg q iq rooms others =
     rw (← s) (λ ef eg n same. (begun_runs t f k p e rooms).firsts g q others lg iq ef eg n same)
 
 begun_firsts : (t f u g : List ℕ) (k l : Keys) (p q : ℕ) → start t f ≡ begun k p → start u g ≡ begun l q
-    → (h : Header) → header f ≡ read.Header h → EqualKeys (bytes_at f h.seed) t u
+    → (h : Header) → header f ≡ Ok h → EqualKeys (bytes_at f h.seed) t u
     → take p f ≡ take q g
     → (rooms others : List ℕ) → (plain_after k f p rooms).phase ≢ Ended → (plain_after l g q others).phase ≢ Ended
     → (plain_after k f p rooms).number ≡ (plain_after l g q others).number

@@ -3,13 +3,12 @@
 -- Document 00: "It begins with the state that an accepted start gave; each step gets the state that the last one left
 -- and the start's header, keys and file". What holds after any list of steps is RunAgrees (crate opening, Agreement).
 -- Assumes nothing.
-use Rattle.std.specs.Prelude.{◌≡◌, ◌≢◌, List, ℕ, ◌<◌, take}
+use Rattle.std.specs.Prelude.{◌≡◌, ◌≢◌, List, ℕ, ◌<◌, take, Ok}
 use Rattle.refusals.specs.declared.Refusal.{Refusal}
 use Rattle.fields.specs.Fields.{bytes_at}
 use Rattle.keys.specs.Kdbx4Keys.{cipher_key, tag_base}
 use Rattle.outer_header.specs.Kdbx4Header.{header}
 use Rattle.outer_header.specs.declared.Header.{Header}
-use Rattle.outer_header.specs.declared.Reading.TheVariants as read
 use Rattle.opening.specs.declared.Keys.{Keys}
 use Rattle.opening.specs.declared.Phase.TheVariants.{Ended}
 use Rattle.opening.specs.Decryption.{refused}
@@ -35,7 +34,7 @@ pub record Agrees (t f : List ℕ) : Type 0 where
   -- "Two such files, opened with equal keys, with equal header, hash, tag and first data blocks, have handed over the
   -- same when just those are taken": a second T and file, whose start is accepted too
   pub firsts : (u g : List ℕ) (k l : Keys) (p q : ℕ) → start t f ≡ begun k p → start u g ≡ begun l q
-      → (h : Header) → header f ≡ read.Header h → EqualKeys (bytes_at f h.seed) t u
+      → (h : Header) → header f ≡ Ok h → EqualKeys (bytes_at f h.seed) t u
       → take p f ≡ take q g
       → (rooms others : List ℕ) → (plain_after k f p rooms).phase ≢ Ended → (plain_after l g q others).phase ≢ Ended
       → (plain_after k f p rooms).number ≡ (plain_after l g q others).number

@@ -8,7 +8,7 @@
 -- t is T, f the file. A nonce of twelve bytes has four zeros behind it.
 -- Not here: the header (crate outer_header), the blocks (crates block_stream and opening).
 -- Assumes nothing.
-use Rattle.std.specs.Prelude.{Bool, cond, List, ℕ, ◌+◌, ◌-◌, ltb, length, take, drop}
+use Rattle.std.specs.Prelude.{Bool, cond, List, ℕ, ◌+◌, ◌-◌, ltb, length, take, drop, Result, Ok, Err}
 use Rattle.slices.specs.Same.{same}
 use Rattle.refusals.specs.declared.Refusal.{Refusal}
 use Rattle.refusals.specs.declared.Refusal.TheVariants.{CutShort, HeaderHash, HeaderTag}
@@ -17,8 +17,6 @@ use Rattle.refusals.specs.declared.Outcome.TheVariants as outcome
 use Rattle.fields.specs.Fields.{bytes_at}
 use Rattle.outer_header.specs.Kdbx4Header.{header}
 use Rattle.outer_header.specs.declared.Header.{Header}
-use Rattle.outer_header.specs.declared.Reading.{Reading}
-use Rattle.outer_header.specs.declared.Reading.TheVariants as read
 use Rattle.opening.specs.declared.Keys.{Keys}
 use Rattle.opening.specs.declared.Opener.{Opener}
 use Rattle.opening.specs.declared.Phase.TheVariants.{Closed}
@@ -51,9 +49,9 @@ start_at f n k =
     (cond (tag_holds k.base f n) (begun k (n + 64)) (start_refused HeaderTag))
     (start_refused HeaderHash))
 
-unfoldable pub start_in : List ℕ → List ℕ → Reading → Begun
-start_in t f (read.Refused r) = start_refused r
-start_in t f (read.Header h) = start_at f h.length (keys_of t f h)
+unfoldable pub start_in : List ℕ → List ℕ → Result Header Refusal → Begun
+start_in t f (Err r) = start_refused r
+start_in t f (Ok h) = start_at f h.length (keys_of t f h)
 
 unfoldable pub start : List ℕ → List ℕ → Begun
 start t f = start_in t f (header f)

@@ -8,11 +8,11 @@
 // blocks, and 17 last.
 #![tactic(auto)]
 
-ghost use Rattle.std.specs.Prelude.{◌≡◌, ◌++◌, ◌+◌, ◌-◌, ◌≤◌, length, replicate};
+ghost use Rattle.std.specs.Prelude.{◌≡◌, ◌+◌, ◌≤◌, length, Ok};
 ghost use Rattle.refusals.specs.Limits.{file_limit};
 ghost use Rattle.slices.specs.Over.{over};
 ghost use Rattle.outer_header.specs.Kdbx4Header.{header};
-ghost use Rattle.outer_header.specs.declared.Reading.TheVariants as read;
+ghost use Rattle.opening.specs.Steps as steps;
 ghost use Rattle.opening.specs.Whole as whole;
 ghost use Rattle.vault.specs.Vault as kdbx4;
 ghost use Rattle.vault.specs.Checked as checked;
@@ -20,7 +20,7 @@ ghost use Rattle.vault.specs.Checked as checked;
 use aes::RoundKeys;
 use ciphers::Cipher;
 use opening::{Keys, Phase, Started};
-use outer_header::{Header, Reading};
+use outer_header::Header;
 use refusals::{Outcome, Refusal, Written};
 
 // The checks up to the header's tag: their outcome, and, where it is accepted, the keys and the place of the first
@@ -44,7 +44,7 @@ fn padded<const N: usize>(s: &[u8]) -> [u8; N]
 
 // The keys of T and an accepted header.
 fn keys_of(f: &[u8], h: Header, t: [u8; 32]) -> Keys
-    requires { header f.now ≡ read.Header h }
+    requires { header f.now ≡ Ok h }
     ensures { result ≡ kdbx4.keys_of t f.now h }
 {
     let seed = padded(slices::part(f, h.seed.start, h.seed.length));
@@ -117,8 +117,8 @@ fn check(f: &[u8], t: [u8; 32]) -> Checked
     ensures { result ≡ checked.checked_of (kdbx4.start t f.now) }
 {
     match outer_header::read(f) {
-        Reading::Refused(r) => return refuse(r),
-        Reading::Header(h) => {
+        Err(r) => return refuse(r),
+        Ok(h) => {
             let k = keys_of(f, h, t);
             return check_at(f, h.length, k);
         }

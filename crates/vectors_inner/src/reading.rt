@@ -1,5 +1,5 @@
 // The rows of a payload that is read.
-use inner_header::{Attachment, Inner, Read};
+use inner_header::Inner;
 use refusals::Written;
 use std::io;
 use vectors::table::field;
@@ -14,11 +14,11 @@ pub fn line(rt: &impl Print, line: &[u8]) -> io::Result<()> {
 // The rows of a payload.
 pub fn rows(rt: &impl Print, name: &[u8], payload: &[u8]) -> io::Result<()> {
     match inner_header::read_header(payload) {
-        Read::Refused(r) => {
+        Err(r) => {
             vectors::row(rt, b"inner", name, r.place(), r.number(), b"")?;
             attachment(rt, name, payload, 0)
         }
-        Read::Header(h) => accepted(rt, name, payload, h),
+        Ok(h) => accepted(rt, name, payload, h),
     }
 }
 
@@ -44,11 +44,13 @@ fn accepted(rt: &impl Print, name: &[u8], payload: &[u8], h: Inner) -> io::Resul
 // The rows of an attachment.
 fn attachment(rt: &impl Print, name: &[u8], payload: &[u8], index: usize) -> io::Result<()> {
     match inner_header::find_attachment(payload, index) {
-        Attachment::Refused(r) => vectors::row(rt, b"attachment", name, r.place(), r.number(), b""),
-        Attachment::At(flags, p) => {
-            vectors::row(rt, b"flags", name, index, 0, &[flags])?;
-            let content = slices::part(payload, p.start, p.length);
-            hashed(rt, b"attachment", name, p.start, content)
+        Err(r) => vectors::row(rt, b"attachment", name, r.place(), r.number(), b""),
+        Ok((flags, p)) => {
+            let byte = [flags];
+            vectors::row(rt, b"flags", name, index, 0, &byte)?;
+            let d = sha256::hash(slices::part(payload, p.start, p.length));
+            let digest = d.digest;
+            vectors::row(rt, b"attachment", name, p.start, 0, &digest)
         }
     }
 }

@@ -62,8 +62,8 @@ fn tried(rt: &impl Print, form: &[u8], piece: [u8; 16]) -> io::Result<()> {
         rt,
         b"pkcs7",
         form,
-        found.value() as usize,
-        found.number(),
+        pkcs7::padding_value(found) as usize,
+        pkcs7::padding_number(found),
         &piece,
     )
 }

@@ -9,6 +9,7 @@
 --   Bytes     lists of bytes
 --   Tests     a rule over all bytes, by one test that is computed
 --   Said      equal answers say the same
+--   Pairs     equal answers that are pairs have the same parts
 --   Sums      what a list of numbers adds up to
 pub mod Cases
 pub mod Xor
@@ -18,4 +19,5 @@ pub mod XorBytes
 pub mod Bytes
 pub mod Tests
 pub mod Said
+pub mod Pairs
 pub mod Sums

@@ -5,17 +5,15 @@
 --   said             both
 -- Not here: what a size field holds (Size); that 5 is that refusal's number (crate refusals, proofs, Laws.Numbers).
 -- Assumes nothing.
-use Rattle.std.specs.Prelude.{ℕ, List, [], ◌∷◌}
-use Rattle.words.specs.declared.le.Size.{Size}
-use Rattle.words.specs.declared.le.Size.TheVariants.{Of, Negative}
+use Rattle.std.specs.Prelude.{ℕ, List, [], ◌∷◌, Option, Some, None}
 
-abbrev pub number : Size → ℕ
-number (Of n) = 0
-number Negative = 5
+abbrev pub number : Option ℕ → ℕ
+number (Some n) = 0
+number None = 5
 
-abbrev pub value : Size → ℕ
-value (Of n) = n
-value Negative = 0
+abbrev pub value : Option ℕ → ℕ
+value (Some n) = n
+value None = 0
 
-abbrev pub said : Size → List ℕ
+abbrev pub said : Option ℕ → List ℕ
 said z = number z ∷ value z ∷ []

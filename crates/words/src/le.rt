@@ -6,32 +6,23 @@ ghost use Rattle.words.specs.Answers as answers;
 
 use crate::byte_at;
 
-// What a size field (Int32) holds.
-#[derive(Clone, Copy)]
-pub enum Size {
-    Of(u32),
-    Negative,
+// The number of what a size field holds: 0, or 5 of a negative size.
+pub fn size_number(size: Option<u32>) -> u8
+    ensures { result ≡ answers.number size }
+{
+    match size {
+        Some(_) => 0,
+        None => 5,
+    }
 }
 
-impl Size {
-    // The number of the answer: 0, or 5 of a negative size.
-    pub fn number(self) -> u8
-        ensures { result ≡ answers.number self }
-    {
-        match self {
-            Size::Of(_) => 0,
-            Size::Negative => 5,
-        }
-    }
-
-    // The size: 0 of a negative one.
-    pub fn value(self) -> u32
-        ensures { result ≡ answers.value self }
-    {
-        match self {
-            Size::Of(n) => n,
-            Size::Negative => 0,
-        }
+// The size that a size field holds: 0 of a negative one.
+pub fn size_value(size: Option<u32>) -> u32
+    ensures { result ≡ answers.value size }
+{
+    match size {
+        Some(n) => n,
+        None => 0,
     }
 }
 
@@ -70,16 +61,13 @@ pub fn u64_at(s: &[u8], at: usize) -> u64
     (u32_at(s, at) as u64) + (u32_at(s, at + 4) as u64) * 0x1_0000_0000
 }
 
-// The size field at a place.
-pub fn size_at(s: &[u8], at: usize) -> Size
+// The size field (Int32) at a place: none where it holds a negative number.
+pub fn size_at(s: &[u8], at: usize) -> Option<u32>
     ensures value { result ≡ int32 (endian.le 4 s.now at) }
     ensures result_value { answers.said result ≡ answers.said (int32 (endian.le 4 s.now at)) }
 {
     let n = u32_at(s, at);
-    if n < 0x8000_0000 {
-        return Size::Of(n);
-    }
-    Size::Negative
+    if n < 0x8000_0000 { Some(n) } else { None }
 }
 
 // The four bytes of a number.

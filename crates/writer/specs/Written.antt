@@ -11,7 +11,7 @@
 -- answer and the file are said for any sizes: what the writer wrote with others is compared in crate round_trip.
 -- Not here: the header (crate header_writer), a ciphertext in blocks (crate cutting).
 -- Assumes nothing.
-use Rattle.std.specs.Prelude.{cond, List, [], ◌++◌, ℕ, leb, ltb, length}
+use Rattle.std.specs.Prelude.{cond, List, [], ◌++◌, ℕ, leb, ltb, length, Result, Ok, Err}
 use Rattle.refusals.specs.declared.Refusal.TheVariants.{TooLong, NoRoom}
 use Rattle.refusals.specs.declared.Written.{Written}
 use Rattle.refusals.specs.declared.Written.TheVariants as written
@@ -22,8 +22,7 @@ use Rattle.ciphers.specs.declared.Cipher.{Cipher}
 use Rattle.ciphers.specs.declared.Cipher.TheVariants.{Aes256, ChaCha20}
 use Rattle.kdf_dictionary.specs.declared.writer.Figures.{Figures as KdfFigures}
 use Rattle.header_writer.specs.Written.{header_bytes, checked}
-use Rattle.header_writer.specs.declared.Checked.{Checked}
-use Rattle.header_writer.specs.declared.Checked.TheVariants.{As, Refused}
+use Rattle.refusals.specs.declared.Refusal.{Refusal}
 use Rattle.cutting.specs.Cutting.{cut, blocks_from}
 use Rattle.opening.specs.declared.Keys.{Keys}
 use Rattle.opening.specs.Decryption.{chacha_from}
@@ -94,11 +93,11 @@ settled s b f n =
     (cond (leb f s.file) (cond (ltb n f) (written.Refused NoRoom) (written.Wrote f)) (written.Refused TooLong))
     (written.Refused TooLong)
 
-unfoldable pub writing_by : Sizes → Checked → Figures → List ℕ → List ℕ → ℕ → Written
-writing_by s (Refused r) g t b n = written.Refused r
-writing_by s (As c) g t b n = settled s (length b) (length (file_cut s.block g c t b)) n
+unfoldable pub writing_by : Sizes → Result Cipher Refusal → Figures → List ℕ → List ℕ → ℕ → Written
+writing_by s (Err r) g t b n = written.Refused r
+writing_by s (Ok c) g t b n = settled s (length b) (length (file_cut s.block g c t b)) n
 
-unfoldable pub checked_of : Figures → Checked
+unfoldable pub checked_of : Figures → Result Cipher Refusal
 checked_of g = checked g.minor g.cipher g.seed g.nonce g.kdf g.salt g.custom
 
 -- the writer's answer with n bytes lent
@@ -109,10 +108,10 @@ abbrev pub writing : Figures → List ℕ → List ℕ → ℕ → Written
 writing g t b n = writing_with sizes g t b n
 
 -- the bytes that it writes: none where it is refused
-unfoldable pub shown_by : ℕ → Checked → Written → Figures → List ℕ → List ℕ → List ℕ
-shown_by z (Refused r) w g t b = []
-shown_by z (As c) (written.Refused r) g t b = []
-shown_by z (As c) (written.Wrote n) g t b = file_cut z g c t b
+unfoldable pub shown_by : ℕ → Result Cipher Refusal → Written → Figures → List ℕ → List ℕ → List ℕ
+shown_by z (Err r) w g t b = []
+shown_by z (Ok c) (written.Refused r) g t b = []
+shown_by z (Ok c) (written.Wrote n) g t b = file_cut z g c t b
 
 unfoldable pub shown_with : Sizes → Figures → List ℕ → List ℕ → ℕ → List ℕ
 shown_with s g t b n = shown_by s.block (checked_of g) (writing_with s g t b n) g t b

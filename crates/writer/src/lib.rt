@@ -18,7 +18,6 @@ ghost use Rattle.writer.specs.Written as kdbx4;
 ghost use Rattle.writer.specs.Stretches as stretches;
 
 use ciphers::Cipher;
-use header_writer::Checked;
 use kdf_dictionary::writer::Figures;
 use opening::Keys;
 use refusals::{Refusal, Written};
@@ -181,8 +180,8 @@ pub fn write(
     ensures out_after { out.new ≡ over (kdbx4.shown (kdbx4.figures minor cipher.now seed.now nonce.now figures salt.now custom.now) t payload.now (length out.old)) out.old }
 {
     match header_writer::check(minor, cipher, seed, nonce, figures, salt, custom) {
-        Checked::Refused(r) => return Written::Refused(r),
-        Checked::As(c) => return write_checked(
+        Err(r) => return Written::Refused(r),
+        Ok(c) => return write_checked(
             minor, c, seed, nonce, figures, salt, custom, t, payload, out,
         ),
     }

@@ -20,8 +20,7 @@ use lib.Seq.{length-take-le, take_at, drop_at, drop-drop, drop-append_seam}
 use borrow.Author.Tests.{le-leb, lt-ltb, leb-true}
 use Rattle.words.specs.Endian.{le, le_bytes}
 use Rattle.words.specs.Size.{int32}
-use Rattle.words.specs.declared.le.Size.{Size}
-use Rattle.words.specs.declared.le.Size.TheVariants.{Of, Negative}
+use Rattle.std.specs.Prelude.{Option, Some, None}
 use Rattle.words.proofs.Laws.Cases.{by_bool}
 use Rattle.words.proofs.Laws.Endian.{le-le_bytes, le-drop, le-append, length-le_bytes}
 use Rattle.slices.specs.Over.{over}
@@ -79,7 +78,7 @@ module _ (t d r f : List ℕ) (p : ℕ) (lt : length t ≡ 32) (l : length f ≤
       a ∙ ap (λ (s : List ℕ). le 4 s 0) (behind ∙ append_assoc size d r) ∙ le-append 4 size (d ++ r) 0 b
       ∙ le-le_bytes 4 (length d) ∙ mod-eq_of_lt k
 
-  int32_is : int32 (le 4 f (p + 32)) ≡ Of (length d)
+  int32_is : int32 (le 4 f (p + 32)) ≡ Some (length d)
   unfolding int32
   int32_is =
       let k : length d < 2 ^ 31 = omega (arith, within, l, file_size) in
@@ -146,11 +145,11 @@ found_kept f p n h =
     (λ t. rw t (record { limit = h.limit; inside = omega (arith, h.inside) }))
     (λ t. rw t h)
 
-judge_size_kept : (base f : List ℕ) (i p : ℕ) (z : Size) → length f ≤ file_limit → p + 36 ≤ length f
+judge_size_kept : (base f : List ℕ) (i p : ℕ) (z : Option ℕ) → length f ≤ file_limit → p + 36 ≤ length f
     → Kept f p (judge_size base f i p z)
 unfolding judge_size
-judge_size_kept base f i p Negative l h = omega arith
-judge_size_kept base f i p (Of n) l h =
+judge_size_kept base f i p None l h = omega arith
+judge_size_kept base f i p (Some n) l h =
     by_bool (leb n (length f - (p + 36)))
     (λ t. by_bool (holds base f i p n)
     (λ u. rw (t, u)

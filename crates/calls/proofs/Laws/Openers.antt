@@ -59,7 +59,7 @@ use Rattle.ciphers.specs.declared.Cipher.TheVariants.{Aes256, ChaCha20}
 use Rattle.fields.specs.Fields.{bytes_at}
 use Rattle.outer_header.specs.Kdbx4Header.{header}
 use Rattle.outer_header.specs.declared.Header.{Header}
-use Rattle.outer_header.specs.declared.Reading.TheVariants as read
+use Rattle.std.specs.Prelude.{Ok}
 use Rattle.outer_header.proofs.Laws.Accepted.{header_stands}
 use Rattle.block_stream.specs.Blocks.{judge, data_at}
 use Rattle.block_stream.specs.declared.Block.{Block}
@@ -206,7 +206,7 @@ typed-keys_with c seed nonce t n =
     typed-keys_for c (cipher_key seed t) nonce (tag_base seed t) (length-hash fips180.sha256 _ length-iv256)
     (below_hash fips180.sha256 _) n (length-hash fips180.sha512 _ refl)
 
-typed-keys_of : (t f : List ℕ) (h : Header) → header f ≡ read.Header h → bytes.TypedKeys (keys_of t f h)
+typed-keys_of : (t f : List ℕ) (h : Header) → header f ≡ Ok h → bytes.TypedKeys (keys_of t f h)
 unfolding keys_of
 typed-keys_of t f h e =
     typed-keys_with h.cipher (bytes_at f h.seed) (padded (bytes_at f h.nonce)) t

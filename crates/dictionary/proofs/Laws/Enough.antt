@@ -11,44 +11,43 @@ use native.Mathlib.Omega.{arith}
 use lib.Dec.{leb}
 use lib.ListN.{length}
 use Rattle.slices.specs.Same.{same}
-use Rattle.dictionary.specs.declared.Verdict.{Verdict}
-use Rattle.dictionary.specs.declared.Verdict.TheVariants as verdict_is
+use Rattle.dictionary.specs.declared.Fault.TheVariants as fault
+use Rattle.dictionary.specs.declared.Fault.{Fault}
 use Rattle.dictionary.specs.declared.Item.{Item}
-use Rattle.dictionary.specs.declared.Entry.{Entry}
-use Rattle.dictionary.specs.declared.Entry.TheVariants as entry
-use Rattle.dictionary.specs.declared.Found.{Found}
-use Rattle.dictionary.specs.declared.Found.TheVariants.{At}
+use Rattle.std.specs.Prelude.{Option, Some, None, Result, Ok, Err}
+use Rattle.dictionary.specs.declared.Value.{Value}
+use Rattle.refusals.specs.declared.Refusal.{Refusal}
 use Rattle.dictionary.specs.Dictionary.{entry_at, name_of, next, named_in, named, walk_in, walk, search_in, search_from}
 use Rattle.dictionary.proofs.Laws.Entry.{entry_at_past, entry_at_within}
 
-pub next_far : (s : List ℕ) (at : ℕ) (i : Item) → entry_at s at ≡ entry.Item i → at + 9 ≤ next i
+pub next_far : (s : List ℕ) (at : ℕ) (i : Item) → entry_at s at ≡ Ok (Some i) → at + 9 ≤ next i
 next_far s at i p = let w = entry_at_within s at i p in omega arith
 
 -- two ways on from an entry agree: a walk goes on at an item's end alone
-abbrev Agree : {A : Type 0} → Entry → (ℕ → A) → (ℕ → A) → Type 0
-Agree e f g = (i : Item) → e ≡ entry.Item i → f (next i) ≡ g (next i)
+abbrev Agree : {A : Type 0} → Result (Option Item) ℕ → (ℕ → A) → (ℕ → A) → Type 0
+Agree e f g = (i : Item) → e ≡ Ok (Some i) → f (next i) ≡ g (next i)
 
 module _ (s : List ℕ) (at : ℕ) where
-  named_in-agree : (name : List ℕ) (e : Entry) (f g : ℕ → Bool) → Agree e f g → named_in s name e f ≡ named_in s name e g
+  named_in-agree : (name : List ℕ) (e : Result (Option Item) ℕ) (f g : ℕ → Bool) → Agree e f g → named_in s name e f ≡ named_in s name e g
   unfolding named_in
-  named_in-agree name (entry.Item i) f g h = ap (λ (r : Bool). cond (same (name_of s i) name) true r) (h i refl)
-  named_in-agree name entry.End f g h = refl
-  named_in-agree name (entry.Broken b) f g h = refl
+  named_in-agree name (Ok (Some i)) f g h = ap (λ (r : Bool). cond (same (name_of s i) name) true r) (h i refl)
+  named_in-agree name (Ok None) f g h = refl
+  named_in-agree name (Err b) f g h = refl
 
-  walk_in-agree : (e : Entry) (f g : ℕ → Verdict) → Agree e f g → walk_in s at e f ≡ walk_in s at e g
+  walk_in-agree : (e : Result (Option Item) ℕ) (f g : ℕ → Result Unit Fault) → Agree e f g → walk_in s at e f ≡ walk_in s at e g
   unfolding walk_in
-  walk_in-agree (entry.Item i) f g h =
-      ap (λ (r : Verdict). cond (named (length s) s 2 at (name_of s i)) (verdict_is.Repeated at) r) (h i refl)
-  walk_in-agree entry.End f g h = refl
-  walk_in-agree (entry.Broken b) f g h = refl
+  walk_in-agree (Ok (Some i)) f g h =
+      ap (λ (r : Result Unit Fault). cond (named (length s) s 2 at (name_of s i)) (Err (fault.Repeated at)) r) (h i refl)
+  walk_in-agree (Ok None) f g h = refl
+  walk_in-agree (Err b) f g h = refl
 
-  search_in-agree : (name : List ℕ) (e : Entry) (f g : ℕ → Found) → Agree e f g
+  search_in-agree : (name : List ℕ) (e : Result (Option Item) ℕ) (f g : ℕ → Result (Option Value) Refusal) → Agree e f g
       → search_in s name e f ≡ search_in s name e g
   unfolding search_in
-  search_in-agree name (entry.Item i) f g h =
-      ap (λ (r : Found). cond (same (name_of s i) name) (At i.kind i.value i.value_len) r) (h i refl)
-  search_in-agree name entry.End f g h = refl
-  search_in-agree name (entry.Broken b) f g h = refl
+  search_in-agree name (Ok (Some i)) f g h =
+      ap (λ (r : Result (Option Value) Refusal). cond (same (name_of s i) name) (Ok (Some (record { kind = i.kind; start = i.value; length = i.value_len }))) r) (h i refl)
+  search_in-agree name (Ok None) f g h = refl
+  search_in-agree name (Err b) f g h = refl
 
 none : (b : Bool) → cond b false false ≡ false
 none true = refl

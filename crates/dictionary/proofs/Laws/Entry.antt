@@ -13,15 +13,13 @@ use lib.ListN.{length, get_or, take, drop}
 use borrow.Author.Tests.{le-leb, leb-false, ltb-false}
 use Rattle.words.specs.Endian.{le}
 use Rattle.words.specs.Size.{int32}
-use Rattle.words.specs.declared.le.Size.{Size}
-use Rattle.words.specs.declared.le.Size.TheVariants.{Of, Negative}
+use Rattle.std.specs.Prelude.{Option, Some, None, Result, Ok, Err}
 use Rattle.words.proofs.Laws.Cases.{by_bool}
 use Rattle.dictionary.specs.declared.Item.{Item}
-use Rattle.dictionary.specs.declared.Entry.TheVariants as entry
 use Rattle.dictionary.specs.Dictionary.{size_fits_type, item_at, value_at, name_at, entry_at, name_of, next}
 use Rattle.dictionary.specs.Order.{name_from}
 
-pub entry_at_past : (s : List ℕ) (at : ℕ) → length s ≤ at → entry_at s at ≡ entry.Broken 0
+pub entry_at_past : (s : List ℕ) (at : ℕ) → length s ≤ at → entry_at s at ≡ Err 0
 unfolding entry_at
 entry_at_past s at h = rw (le-leb (length s) at h)
 
@@ -32,17 +30,17 @@ pub record IsWithin (s : List ℕ) (at : ℕ) (i : Item) : Type 0 where
   pub next_le : next i ≤ length s
   pub fits : size_fits_type i.kind i.value_len ≡ true
 
-end_never : (i : Item) → entry.End ≡ entry.Item i → ⊥
+end_never : (i : Item) → ◌≡◌ {A = Result (Option Item) ℕ} (Ok None) (Ok (Some i)) → ⊥
 end_never i p = let z : ◌≡◌ {A = ℕ} 0 1 = cc in omega arith
 
-broken_never : (b : ℕ) (i : Item) → entry.Broken b ≡ entry.Item i → ⊥
+broken_never : (b : ℕ) (i : Item) → ◌≡◌ {A = Result (Option Item) ℕ} (Err b) (Ok (Some i)) → ⊥
 broken_never b i p = let z : ◌≡◌ {A = ℕ} 0 1 = cc in omega arith
 
-value_at_within : (s : List ℕ) (at n : ℕ) (v : Size) (i : Item) → at + 5 + n + 4 ≤ length s
-    → value_at s at n v ≡ entry.Item i → IsWithin s at i
+value_at_within : (s : List ℕ) (at n : ℕ) (v : Option ℕ) (i : Item) → at + 5 + n + 4 ≤ length s
+    → value_at s at n v ≡ Ok (Some i) → IsWithin s at i
 unfolding value_at
-value_at_within s at n Negative i h = λ p. absurd (broken_never _ i p)
-value_at_within s at n (Of v) i h =
+value_at_within s at n None i h = λ p. absurd (broken_never _ i p)
+value_at_within s at n (Some v) i h =
     by_bool (ltb (length s - (at + 5 + n + 4)) v)
     (λ t. rw t (λ p. absurd (broken_never _ i p)))
     (λ t. by_bool (size_fits_type (get_or s at 0) v)
@@ -52,17 +50,17 @@ value_at_within s at n (Of v) i h =
     rw (← e) (record { name_start = refl; value_start = refl; next_le = k; fits = u })))
     (λ u. rw (t, u) (λ p. absurd (broken_never _ i p))))
 
-name_at_within : (s : List ℕ) (at : ℕ) (n : Size) (i : Item) → at + 5 ≤ length s → name_at s at n ≡ entry.Item i
+name_at_within : (s : List ℕ) (at : ℕ) (n : Option ℕ) (i : Item) → at + 5 ≤ length s → name_at s at n ≡ Ok (Some i)
     → IsWithin s at i
 unfolding name_at
-name_at_within s at Negative i h = λ p. absurd (broken_never _ i p)
-name_at_within s at (Of n) i h =
+name_at_within s at None i h = λ p. absurd (broken_never _ i p)
+name_at_within s at (Some n) i h =
     by_bool (ltb (length s - (at + 5)) (n + 4))
     (λ t. rw t (λ p. absurd (broken_never _ i p)))
     (λ t. rw t (value_at_within s at n (int32 (le 4 s (at + 5 + n))) i
     (omega (arith, ltb-false (length s - (at + 5)) (n + 4) t))))
 
-pub entry_at_within : (s : List ℕ) (at : ℕ) (i : Item) → entry_at s at ≡ entry.Item i → IsWithin s at i
+pub entry_at_within : (s : List ℕ) (at : ℕ) (i : Item) → entry_at s at ≡ Ok (Some i) → IsWithin s at i
 unfolding entry_at
 entry_at_within s at i =
     by_bool (leb (length s) at)
@@ -76,10 +74,10 @@ entry_at_within s at i =
     (λ v. rw (t, u, v) (name_at_within s at (int32 (le 4 s (at + 1))) i
     (omega (arith, leb-false (length s) at t, ltb-false (length s - at) 5 v))))))
 
-value_at_len : (s : List ℕ) (at n : ℕ) (v : Size) (i : Item) → value_at s at n v ≡ entry.Item i → i.name_len ≡ n
+value_at_len : (s : List ℕ) (at n : ℕ) (v : Option ℕ) (i : Item) → value_at s at n v ≡ Ok (Some i) → i.name_len ≡ n
 unfolding value_at
-value_at_len s at n Negative i = λ p. absurd (broken_never _ i p)
-value_at_len s at n (Of v) i =
+value_at_len s at n None i = λ p. absurd (broken_never _ i p)
+value_at_len s at n (Some v) i =
     by_bool (ltb (length s - (at + 5 + n + 4)) v)
     (λ t. rw t (λ p. absurd (broken_never _ i p)))
     (λ t. by_bool (size_fits_type (get_or s at 0) v)
@@ -88,7 +86,7 @@ value_at_len s at n (Of v) i =
     rw (← e)))
     (λ u. rw (t, u) (λ p. absurd (broken_never _ i p))))
 
-name_at_len : (s : List ℕ) (at n : ℕ) (i : Item) → name_at s at (int32 n) ≡ entry.Item i → i.name_len ≡ n
+name_at_len : (s : List ℕ) (at n : ℕ) (i : Item) → name_at s at (int32 n) ≡ Ok (Some i) → i.name_len ≡ n
 unfolding name_at int32
 name_at_len s at n i =
     by_bool (ltb n (2 ^ 31))
@@ -97,7 +95,7 @@ name_at_len s at n i =
     (λ t. rw (l, t) (value_at_len s at n (int32 (le 4 s (at + 5 + n))) i)))
     (λ l. rw l (λ p. absurd (broken_never _ i p)))
 
-entry_at_len : (s : List ℕ) (at : ℕ) (i : Item) → entry_at s at ≡ entry.Item i → i.name_len ≡ le 4 s (at + 1)
+entry_at_len : (s : List ℕ) (at : ℕ) (i : Item) → entry_at s at ≡ Ok (Some i) → i.name_len ≡ le 4 s (at + 1)
 unfolding entry_at
 entry_at_len s at i =
     by_bool (leb (length s) at)
@@ -110,6 +108,6 @@ entry_at_len s at i =
     (λ v. rw (t, u, v) (λ p. absurd (broken_never _ i p)))
     (λ v. rw (t, u, v) (name_at_len s at (le 4 s (at + 1)) i))))
 
-pub name_from_lem : (s : List ℕ) (at : ℕ) (i : Item) → entry_at s at ≡ entry.Item i → name_of s i ≡ name_from s at
+pub name_from_lem : (s : List ℕ) (at : ℕ) (i : Item) → entry_at s at ≡ Ok (Some i) → name_of s i ≡ name_from s at
 name_from_lem s at i p =
     ap₂ (λ (n m : ℕ). take n (drop m s)) (entry_at_len s at i p) (entry_at_within s at i p).name_start

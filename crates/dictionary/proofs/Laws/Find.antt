@@ -9,7 +9,7 @@
 --   search_from_within    the same, of a search from any place on
 --   lookup_found     what is shown is the value of that item
 -- Assumes nothing.
-use mathlib.Core.Path.{◌≡◌, refl, sym, ap₂}
+use mathlib.Core.Path.{◌≡◌, refl, sym, ap, ap₂}
 use mathlib.Core.Bool.{Bool, true, false, cond}
 use mathlib.Core.List.{List}
 use Prim.Native.Nat.{ℕ, zero, suc, ◌+◌, ◌≤◌}
@@ -19,13 +19,12 @@ use lib.ListN.{length, take, drop}
 use Rattle.words.proofs.Laws.Cases.{by_bool}
 use Rattle.slices.specs.Same.{same}
 use Rattle.slices.proofs.Laws.Same.{same_true}
-use Rattle.dictionary.specs.declared.Verdict.{Verdict}
-use Rattle.dictionary.specs.declared.Verdict.TheVariants as verdict_is
+use Rattle.dictionary.specs.declared.Fault.TheVariants as fault
+use Rattle.dictionary.specs.declared.Fault.{Fault}
 use Rattle.dictionary.specs.declared.Item.{Item}
-use Rattle.dictionary.specs.declared.Entry.{Entry}
-use Rattle.dictionary.specs.declared.Entry.TheVariants as entry
-use Rattle.dictionary.specs.declared.Found.{Found}
-use Rattle.dictionary.specs.declared.Found.TheVariants.{At, Absent, Refused}
+use Rattle.std.specs.Prelude.{Option, Some, None, Result, Ok, Err}
+use Rattle.dictionary.specs.declared.Value.{Value}
+use Rattle.refusals.specs.declared.Refusal.{Refusal}
 use Rattle.dictionary.specs.Dictionary.{
   size_fits_type,
   entry_at,
@@ -48,59 +47,65 @@ use Rattle.dictionary.proofs.Laws.Entry.{entry_at_within}
 pub record IsFound (s name : List ℕ) (kind start n : ℕ) : Type 0 where
   pub place : ℕ
   pub item : Item
-  pub stands : entry_at s place ≡ entry.Item item
+  pub stands : entry_at s place ≡ Ok (Some item)
   pub name_is : name_of s item ≡ name
   pub kind_is : kind ≡ item.kind
   pub start_is : start ≡ item.value
   pub length_is : n ≡ item.value_len
 
-absent_never : (kind start n : ℕ) → Absent ≡ At kind start n → ⊥
+-- two values that are found, and the same
+pub same_value : (v w : Value) → ◌≡◌ {A = Result (Option Value) Refusal} (Ok (Some v)) (Ok (Some w)) → v ≡ w
+same_value v w e = cc
+
+absent_never : (kind start n : ℕ) → ◌≡◌ {A = Result (Option Value) Refusal} (Ok None) (Ok (Some (record { kind = kind; start = start; length = n }))) → ⊥
 absent_never kind start n p = let z : ◌≡◌ {A = ℕ} 0 1 = cc in omega arith
 
 module _ (s name : List ℕ) where
-  search_in_found : (at kind start n : ℕ) (e : Entry) (rest : ℕ → Found) → entry_at s at ≡ e
-      → ((m : ℕ) → rest m ≡ At kind start n → IsFound s name kind start n)
-      → search_in s name e rest ≡ At kind start n
+  search_in_found : (at kind start n : ℕ) (e : Result (Option Item) ℕ) (rest : ℕ → Result (Option Value) Refusal) → entry_at s at ≡ e
+      → ((m : ℕ) → rest m ≡ Ok (Some (record { kind = kind; start = start; length = n })) → IsFound s name kind start n)
+      → search_in s name e rest ≡ Ok (Some (record { kind = kind; start = start; length = n }))
       → IsFound s name kind start n
   unfolding search_in
-  search_in_found at kind start n (entry.Item i) rest p h =
+  search_in_found at kind start n (Ok (Some i)) rest p h =
       by_bool (same (name_of s i) name)
-      (λ t. rw t (λ q. record {
+      (λ t. rw t (λ q.
+      let v = same_value _ _ q in
+      record {
         place = at;
         item = i;
         stands = p;
         name_is = same_true (name_of s i) name t;
-        kind_is = cc;
-        start_is = cc;
-        length_is = cc;
+        kind_is = sym (ap (λ (x : Value). x.kind) v);
+        start_is = sym (ap (λ (x : Value). x.start) v);
+        length_is = sym (ap (λ (x : Value). x.length) v);
       }))
       (λ t. rw t (h (next i)))
-  search_in_found at kind start n entry.End rest p h = λ q. absurd (absent_never kind start n q)
-  search_in_found at kind start n (entry.Broken b) rest p h = λ q. absurd (absent_never kind start n q)
+  search_in_found at kind start n (Ok None) rest p h = λ q. absurd (absent_never kind start n q)
+  search_in_found at kind start n (Err b) rest p h = λ q. absurd (absent_never kind start n q)
 
-  search_from_found : (k at kind start n : ℕ) → search_from k s at name ≡ At kind start n → IsFound s name kind start n
+  search_from_found : (k at kind start n : ℕ) → search_from k s at name ≡ Ok (Some (record { kind = kind; start = start; length = n })) → IsFound s name kind start n
   unfolding search_from
   search_from_found zero at kind start n q = absurd (absent_never kind start n q)
   search_from_found (suc k) at kind start n q =
       search_in_found at kind start n (entry_at s at) (λ (m : ℕ). search_from k s m name) refl
       (λ m r. search_from_found k m kind start n r) q
 
-  search_in_absent : (e : Entry) (rest : ℕ → Found) (more : ℕ → Bool) → ((m : ℕ) → rest m ≡ Absent → more m ≡ false)
-      → search_in s name e rest ≡ Absent
+  search_in_absent : (e : Result (Option Item) ℕ) (rest : ℕ → Result (Option Value) Refusal) (more : ℕ → Bool) → ((m : ℕ) → rest m ≡ Ok None → more m ≡ false)
+      → search_in s name e rest ≡ Ok None
       → named_in s name e more ≡ false
   unfolding search_in named_in
-  search_in_absent (entry.Item i) rest more h =
+  search_in_absent (Ok (Some i)) rest more h =
       by_bool (same (name_of s i) name)
       (λ t. rw t (λ q. absurd (absent_never i.kind i.value i.value_len (sym q))))
       (λ t. rw t (h (next i)))
-  search_in_absent entry.End rest more h = λ q. refl
-  search_in_absent (entry.Broken b) rest more h = λ q. refl
+  search_in_absent (Ok None) rest more h = λ q. refl
+  search_in_absent (Err b) rest more h = λ q. refl
 
   none : (b c : Bool) → c ≡ false → cond b false c ≡ false
   none true c e = refl
   none false c e = e
 
-  search_from_absent : (k at stop : ℕ) → search_from k s at name ≡ Absent → named k s at stop name ≡ false
+  search_from_absent : (k at stop : ℕ) → search_from k s at name ≡ Ok None → named k s at stop name ≡ false
   unfolding search_from named
   search_from_absent zero at stop q = refl
   search_from_absent (suc k) at stop q =
@@ -109,43 +114,43 @@ module _ (s name : List ℕ) where
       (λ m r. search_from_absent k m stop r) q)
 
   -- an answer other than a refusal is the search's
-  find_in-accepted : (o : Verdict) (f : Found) → find_in o s name ≡ f → ((r : _) → f ≡ Refused r → ⊥)
-      → (o ≡ verdict_is.Sound) × (search_from (length s) s 2 name ≡ f)
+  find_in-accepted : (o : Result Unit Fault) (f : Result (Option Value) Refusal) → find_in o s name ≡ f → ((r : _) → f ≡ Err r → ⊥)
+      → (o ≡ (Ok tt)) × (search_from (length s) s 2 name ≡ f)
   unfolding find_in
-  find_in-accepted verdict_is.Sound f p h = (refl, p)
-  find_in-accepted (verdict_is.Broken at) f p h = absurd (h _ (sym p))
-  find_in-accepted (verdict_is.Repeated at) f p h = absurd (h _ (sym p))
+  find_in-accepted (Ok tt) f p h = (refl, p)
+  find_in-accepted (Err (fault.Broken at)) f p h = absurd (h _ (sym p))
+  find_in-accepted (Err (fault.Repeated at)) f p h = absurd (h _ (sym p))
 
-  pub find-accepted : (f : Found) → find s name ≡ f → ((r : _) → f ≡ Refused r → ⊥)
-      → (verdict s ≡ verdict_is.Sound) × (search_from (length s) s 2 name ≡ f)
+  pub find-accepted : (f : Result (Option Value) Refusal) → find s name ≡ f → ((r : _) → f ≡ Err r → ⊥)
+      → (verdict s ≡ (Ok tt)) × (search_from (length s) s 2 name ≡ f)
   unfolding find
   find-accepted f p h = find_in-accepted (verdict s) f p h
 
-  pub find_found : (kind start n : ℕ) → find s name ≡ At kind start n → IsFound s name kind start n
+  pub find_found : (kind start n : ℕ) → find s name ≡ Ok (Some (record { kind = kind; start = start; length = n })) → IsFound s name kind start n
   find_found kind start n p =
       search_from_found (length s) 2 kind start n
-      (find-accepted (At kind start n) p (λ r q. let z : ◌≡◌ {A = ℕ} 0 1 = cc in omega arith)).1
+      (find-accepted (Ok (Some (record { kind = kind; start = start; length = n }))) p (λ r q. let z : ◌≡◌ {A = ℕ} 0 1 = cc in omega arith)).1
 
-  pub find_absent : find s name ≡ Absent → (stop : ℕ) → named (length s) s 2 stop name ≡ false
+  pub find_absent : find s name ≡ Ok None → (stop : ℕ) → named (length s) s 2 stop name ≡ false
   find_absent p stop =
       search_from_absent (length s) 2 stop
-      (find-accepted Absent p (λ r q. let z : ◌≡◌ {A = ℕ} 0 1 = cc in omega arith)).1
+      (find-accepted (Ok None) p (λ r q. let z : ◌≡◌ {A = ℕ} 0 1 = cc in omega arith)).1
 
-  pub find_within : (kind start n : ℕ) → find s name ≡ At kind start n
+  pub find_within : (kind start n : ℕ) → find s name ≡ Ok (Some (record { kind = kind; start = start; length = n }))
       → (start + n ≤ length s) × (size_fits_type kind n ≡ true)
   find_within kind start n p =
       let f = find_found kind start n p in
       let w = entry_at_within s f.place f.item f.stands in
       (omega arith, cc)
 
-  pub search_from_within : (k at kind start n : ℕ) → search_from k s at name ≡ At kind start n
+  pub search_from_within : (k at kind start n : ℕ) → search_from k s at name ≡ Ok (Some (record { kind = kind; start = start; length = n }))
       → (start + n ≤ length s) × (size_fits_type kind n ≡ true)
   search_from_within k at kind start n p =
       let f = search_from_found k at kind start n p in
       let w = entry_at_within s f.place f.item f.stands in
       (omega arith, cc)
 
-  pub lookup_found : (kind start n : ℕ) → find s name ≡ At kind start n → (f : IsFound s name kind start n)
+  pub lookup_found : (kind start n : ℕ) → find s name ≡ Ok (Some (record { kind = kind; start = start; length = n })) → (f : IsFound s name kind start n)
       → lookup s name ≡ value_of s f.item
   unfolding lookup shown
   lookup_found kind start n p f =

@@ -22,11 +22,10 @@ use lib.Dec.{eqb, leb}
 use lib.ListN.{length}
 use borrow.Author.Tests.{le-leb, lt-leb, leb-false}
 use Rattle.words.proofs.Laws.Cases.{by_bool}
-use Rattle.dictionary.specs.declared.Verdict.{Verdict}
-use Rattle.dictionary.specs.declared.Verdict.TheVariants as verdict_is
+use Rattle.dictionary.specs.declared.Fault.TheVariants as fault
+use Rattle.dictionary.specs.declared.Fault.{Fault}
 use Rattle.dictionary.specs.declared.Item.{Item}
-use Rattle.dictionary.specs.declared.Entry.{Entry}
-use Rattle.dictionary.specs.declared.Entry.TheVariants as entry
+use Rattle.std.specs.Prelude.{Option, Some, None, Result, Ok, Err}
 use Rattle.dictionary.specs.declared.repeats.Batch.{Batch}
 use Rattle.dictionary.specs.declared.repeats.Batch.TheVariants as batch
 use Rattle.dictionary.specs.Dictionary.{entry_at, name_of, next}
@@ -36,13 +35,13 @@ use Rattle.dictionary.proofs.Laws.Entry.{entry_at_past, name_from_lem}
 use Rattle.dictionary.proofs.Laws.Enough.{next_far}
 use Rattle.dictionary.proofs.Laws.Rising.{or_swap}
 
-pub judge_more : (stop k : ℕ) (s ks : List ℕ) (at : ℕ) (e : Entry) → 0 < k → e ≡ entry_at s at
+pub judge_more : (stop k : ℕ) (s ks : List ℕ) (at : ℕ) (e : Result (Option Item) ℕ) → 0 < k → e ≡ entry_at s at
     → judge stop k s ks at ≡ judge_in stop s ks at e (judge stop (k - 1) s)
 unfolding judge
 judge_more stop zero s ks at e h p = absurd (omega arith)
 judge_more stop (suc k) s ks at e h p = rw (p, sub-one)
 
-pub met_more : (stop k : ℕ) (s ks : List ℕ) (at : ℕ) (e : Entry) → 0 < k → e ≡ entry_at s at
+pub met_more : (stop k : ℕ) (s ks : List ℕ) (at : ℕ) (e : Result (Option Item) ℕ) → 0 < k → e ≡ entry_at s at
     → met stop k s ks at ≡ met_in stop s ks at e (met stop (k - 1) s ks)
 unfolding met
 met_more stop zero s ks at e h p = absurd (omega arith)
@@ -50,62 +49,62 @@ met_more stop (suc k) s ks at e h p = rw (p, sub-one)
 
 -- one turn at an item, by whether its name is known, and at the end
 module _ (stop k : ℕ) (s ks : List ℕ) (at : ℕ) (h : 0 < k) where
-  pub judge_stopped : (i : Item) → entry_at s at ≡ entry.Item i → stop ≤ at
-      → verdict_is.Repeated stop ≡ judge stop k s ks at
+  pub judge_stopped : (i : Item) → entry_at s at ≡ Ok (Some i) → stop ≤ at
+      → Err (fault.Repeated stop) ≡ judge stop k s ks at
   unfolding judge_in
-  judge_stopped i p l = rw (judge_more stop k s ks at (entry.Item i) h (sym p), le-leb stop at l)
+  judge_stopped i p l = rw (judge_more stop k s ks at (Ok (Some i)) h (sym p), le-leb stop at l)
 
-  pub judge-held : (i : Item) → entry_at s at ≡ entry.Item i → at < stop → among (key_at s at) ks ≡ true
-      → verdict_is.Repeated at ≡ judge stop k s ks at
+  pub judge-held : (i : Item) → entry_at s at ≡ Ok (Some i) → at < stop → among (key_at s at) ks ≡ true
+      → Err (fault.Repeated at) ≡ judge stop k s ks at
   unfolding judge_in
   judge-held i p l a =
-      rw (judge_more stop k s ks at (entry.Item i) h (sym p), lt-leb stop at l, name_from_lem s at i p, a)
+      rw (judge_more stop k s ks at (Ok (Some i)) h (sym p), lt-leb stop at l, name_from_lem s at i p, a)
 
-  pub judge_free : (i : Item) → entry_at s at ≡ entry.Item i → at < stop → among (key_at s at) ks ≡ false
+  pub judge_free : (i : Item) → entry_at s at ≡ Ok (Some i) → at < stop → among (key_at s at) ks ≡ false
       → judge stop k s ks at ≡ judge stop (k - 1) s (key_at s at ∷ ks) (next i)
   unfolding judge_in
   judge_free i p l a =
-      rw (judge_more stop k s ks at (entry.Item i) h (sym p), lt-leb stop at l, name_from_lem s at i p, a)
+      rw (judge_more stop k s ks at (Ok (Some i)) h (sym p), lt-leb stop at l, name_from_lem s at i p, a)
 
-  pub judge_end : entry_at s at ≡ entry.End → verdict_is.Sound ≡ judge stop k s ks at
+  pub judge_end : entry_at s at ≡ (Ok None) → (Ok tt) ≡ judge stop k s ks at
   unfolding judge_in
-  judge_end p = rw (judge_more stop k s ks at entry.End h (sym p))
+  judge_end p = rw (judge_more stop k s ks at (Ok None) h (sym p))
 
-  pub judge_broken : (b : ℕ) → entry_at s at ≡ entry.Broken b → verdict_is.Broken b ≡ judge stop k s ks at
+  pub judge_broken : (b : ℕ) → entry_at s at ≡ Err b → Err (fault.Broken b) ≡ judge stop k s ks at
   unfolding judge_in
-  judge_broken b p = rw (judge_more stop k s ks at (entry.Broken b) h (sym p))
+  judge_broken b p = rw (judge_more stop k s ks at (Err b) h (sym p))
 
-  pub met_stopped : (i : Item) → entry_at s at ≡ entry.Item i → stop ≤ at → stop ≡ met stop k s ks at
+  pub met_stopped : (i : Item) → entry_at s at ≡ Ok (Some i) → stop ≤ at → stop ≡ met stop k s ks at
   unfolding met_in
-  met_stopped i p l = rw (met_more stop k s ks at (entry.Item i) h (sym p), le-leb stop at l)
+  met_stopped i p l = rw (met_more stop k s ks at (Ok (Some i)) h (sym p), le-leb stop at l)
 
-  pub met_held : (i : Item) → entry_at s at ≡ entry.Item i → at < stop → among (key_at s at) ks ≡ true
+  pub met_held : (i : Item) → entry_at s at ≡ Ok (Some i) → at < stop → among (key_at s at) ks ≡ true
       → at ≡ met stop k s ks at
   unfolding met_in
-  met_held i p l a = rw (met_more stop k s ks at (entry.Item i) h (sym p), lt-leb stop at l, name_from_lem s at i p, a)
+  met_held i p l a = rw (met_more stop k s ks at (Ok (Some i)) h (sym p), lt-leb stop at l, name_from_lem s at i p, a)
 
-  pub met_free : (i : Item) → entry_at s at ≡ entry.Item i → at < stop → among (key_at s at) ks ≡ false
+  pub met_free : (i : Item) → entry_at s at ≡ Ok (Some i) → at < stop → among (key_at s at) ks ≡ false
       → met stop (k - 1) s ks (next i) ≡ met stop k s ks at
   unfolding met_in
-  met_free i p l a = rw (met_more stop k s ks at (entry.Item i) h (sym p), lt-leb stop at l, name_from_lem s at i p, a)
+  met_free i p l a = rw (met_more stop k s ks at (Ok (Some i)) h (sym p), lt-leb stop at l, name_from_lem s at i p, a)
 
-  pub met_end : entry_at s at ≡ entry.End → stop ≡ met stop k s ks at
+  pub met_end : entry_at s at ≡ (Ok None) → stop ≡ met stop k s ks at
   unfolding met_in
-  met_end p = rw (met_more stop k s ks at entry.End h (sym p))
+  met_end p = rw (met_more stop k s ks at (Ok None) h (sym p))
 
-  pub met_broken : (b : ℕ) → entry_at s at ≡ entry.Broken b → stop ≡ met stop k s ks at
+  pub met_broken : (b : ℕ) → entry_at s at ≡ Err b → stop ≡ met stop k s ks at
   unfolding met_in
-  met_broken b p = rw (met_more stop k s ks at (entry.Broken b) h (sym p))
+  met_broken b p = rw (met_more stop k s ks at (Err b) h (sym p))
 
-judge_in-agree : (stop : ℕ) (s ks : List ℕ) (at : ℕ) (e : Entry) (f g : List ℕ → ℕ → Verdict)
-    → ((i : Item) (ls : List ℕ) → e ≡ entry.Item i → f ls (next i) ≡ g ls (next i))
+judge_in-agree : (stop : ℕ) (s ks : List ℕ) (at : ℕ) (e : Result (Option Item) ℕ) (f g : List ℕ → ℕ → Result Unit Fault)
+    → ((i : Item) (ls : List ℕ) → e ≡ Ok (Some i) → f ls (next i) ≡ g ls (next i))
     → judge_in stop s ks at e f ≡ judge_in stop s ks at e g
 unfolding judge_in
-judge_in-agree stop s ks at (entry.Item i) f g h =
-    ap (λ (r : Verdict). cond (leb stop at) (verdict_is.Repeated stop)
-    (cond (among (key_of (name_of s i)) ks) (verdict_is.Repeated at) r)) (h i (key_of (name_of s i) ∷ ks) refl)
-judge_in-agree stop s ks at entry.End f g h = refl
-judge_in-agree stop s ks at (entry.Broken b) f g h = refl
+judge_in-agree stop s ks at (Ok (Some i)) f g h =
+    ap (λ (r : Result Unit Fault). cond (leb stop at) (Err (fault.Repeated stop))
+    (cond (among (key_of (name_of s i)) ks) (Err (fault.Repeated at)) r)) (h i (key_of (name_of s i) ∷ ks) refl)
+judge_in-agree stop s ks at (Ok None) f g h = refl
+judge_in-agree stop s ks at (Err b) f g h = refl
 
 pub judge_enough : (stop k m : ℕ) (s ks : List ℕ) (at : ℕ) → length s ≤ k + at → length s ≤ m + at
     → judge stop k s ks at ≡ judge stop m s ks at
@@ -123,7 +122,7 @@ judge_enough stop (suc k) (suc m) s ks at h l =
     judge_enough stop k m s ls (next i) (omega arith) (omega arith))
 
 pub judge_past : (stop k : ℕ) (s ks : List ℕ) (at : ℕ) → length s ≤ at
-    → judge stop k s ks at ≡ verdict_is.Broken 0
+    → judge stop k s ks at ≡ Err (fault.Broken 0)
 unfolding judge judge_in
 judge_past stop zero s ks at h = refl
 judge_past stop (suc k) s ks at h = rw (entry_at_past s at h)
@@ -137,16 +136,16 @@ unfolding among
 alike_cons k ks ls h x = ap (λ (b : Bool). cond (eqb k x) true b) (h x)
 
 module _ (stop : ℕ) (s : List ℕ) where
-  same_in : (ks ls : List ℕ) (at : ℕ) (e : Entry) (f : List ℕ → ℕ → Verdict) → Alike ks ls
+  same_in : (ks ls : List ℕ) (at : ℕ) (e : Result (Option Item) ℕ) (f : List ℕ → ℕ → Result Unit Fault) → Alike ks ls
       → ((ps qs : List ℕ) (n : ℕ) → Alike ps qs → f ps n ≡ f qs n)
       → judge_in stop s ks at e f ≡ judge_in stop s ls at e f
   unfolding judge_in
-  same_in ks ls at (entry.Item i) f h g =
-      ap₂ (λ (b : Bool) (r : Verdict). cond (leb stop at) (verdict_is.Repeated stop) (cond b (verdict_is.Repeated at) r))
+  same_in ks ls at (Ok (Some i)) f h g =
+      ap₂ (λ (b : Bool) (r : Result Unit Fault). cond (leb stop at) (Err (fault.Repeated stop)) (cond b (Err (fault.Repeated at)) r))
       (h (key_of (name_of s i)))
       (g (key_of (name_of s i) ∷ ks) (key_of (name_of s i) ∷ ls) (next i) (alike_cons (key_of (name_of s i)) ks ls h))
-  same_in ks ls at entry.End f h g = refl
-  same_in ks ls at (entry.Broken b) f h g = refl
+  same_in ks ls at (Ok None) f h g = refl
+  same_in ks ls at (Err b) f h g = refl
 
   pub judge_same : (k : ℕ) (ks ls : List ℕ) (at : ℕ) → Alike ks ls → judge stop k s ks at ≡ judge stop k s ls at
   unfolding judge
@@ -155,7 +154,7 @@ module _ (stop : ℕ) (s : List ℕ) where
       same_in ks ls at (entry_at s at) (judge stop k s) h (λ ps qs n g. judge_same k ps qs n g)
 
 -- a name that is not known, in a table that has it now
-pub judge_added : (stop k : ℕ) (s ks ls : List ℕ) (at : ℕ) (i : Item) → 0 < k → entry_at s at ≡ entry.Item i
+pub judge_added : (stop k : ℕ) (s ks ls : List ℕ) (at : ℕ) (i : Item) → 0 < k → entry_at s at ≡ Ok (Some i)
     → at < stop → among (key_at s at) ks ≡ false
     → Alike ls (key_at s at ∷ ks)
     → judge stop (k - 1) s ls (next i) ≡ judge stop k s ks at
@@ -175,7 +174,7 @@ among_append x [] ls = last (among x ls)
 among_append x (k ∷ ks) ls = either (eqb k x) (among_append x ks ls) ∙ or_swap (eqb k x) (among x ls) (among x ks)
 
 -- what a batch comes to
-pub filled_done : (s : List ℕ) (from stop : ℕ) (t : List ℕ) (r : Batch) (o : Verdict) → Filled s from stop t r
+pub filled_done : (s : List ℕ) (from stop : ℕ) (t : List ℕ) (r : Batch) (o : Result Unit Fault) → Filled s from stop t r
     → r ≡ batch.Done o
     → o ≡ judge stop (length s) s [] from
 unfolding Filled
@@ -189,15 +188,15 @@ filled_full s from stop t r n next f e = subst (λ (q : Batch). Filled s from st
 
 -- what is met stands no earlier than the walk's place, or than `stop`
 module _ (stop : ℕ) (s ks : List ℕ) where
-  met_in_far : (low at : ℕ) (e : Entry) (g : ℕ → ℕ) → low ≤ stop → low ≤ at
-      → ((i : Item) → e ≡ entry.Item i → low ≤ g (next i)) → low ≤ met_in stop s ks at e g
+  met_in_far : (low at : ℕ) (e : Result (Option Item) ℕ) (g : ℕ → ℕ) → low ≤ stop → low ≤ at
+      → ((i : Item) → e ≡ Ok (Some i) → low ≤ g (next i)) → low ≤ met_in stop s ks at e g
   unfolding met_in
-  met_in_far low at (entry.Item i) g h l r =
+  met_in_far low at (Ok (Some i)) g h l r =
       by_bool (leb stop at)
       (λ t. rw t h)
       (λ t. by_bool (among (key_of (name_of s i)) ks) (λ u. rw (t, u) l) (λ u. rw (t, u) (r i refl)))
-  met_in_far low at entry.End g h l r = h
-  met_in_far low at (entry.Broken b) g h l r = h
+  met_in_far low at (Ok None) g h l r = h
+  met_in_far low at (Err b) g h l r = h
 
   pub met_far : (k low at : ℕ) → low ≤ stop → low ≤ at → low ≤ met stop k s ks at
   unfolding met
@@ -208,12 +207,12 @@ module _ (stop : ℕ) (s ks : List ℕ) where
       met_far k low (next i) h (omega arith))
 
   -- to judge with known names is to judge without them, up to the first item that has one of them
-  unmet_in : (k : ℕ) (ls : List ℕ) (at : ℕ) (e : Entry) (f : ℕ → List ℕ → ℕ → Verdict) → entry_at s at ≡ e
+  unmet_in : (k : ℕ) (ls : List ℕ) (at : ℕ) (e : Result (Option Item) ℕ) (f : ℕ → List ℕ → ℕ → Result Unit Fault) → entry_at s at ≡ e
       → ((ps : List ℕ) (n : ℕ) → f stop (ps ++ ks) n ≡ f (met stop k s ks n) ps n)
       → judge_in stop s (ls ++ ks) at e (f stop)
       ≡ judge_in (met_in stop s ks at e (met stop k s ks)) s ls at e (f (met_in stop s ks at e (met stop k s ks)))
   unfolding judge_in met_in
-  unmet_in k ls at (entry.Item i) f p h =
+  unmet_in k ls at (Ok (Some i)) f p h =
       by_bool (leb stop at)
       (λ t. rw (t, t))
       (λ t. by_bool (among (key_of (name_of s i)) ks)
@@ -224,10 +223,10 @@ module _ (stop : ℕ) (s ks : List ℕ) where
       let m = met_far k (at + 1) (next i) (omega arith) (omega arith) in
       let g : at < met stop k s ks (next i) = omega arith in
       rw (t, u, among_append (key_of (name_of s i)) ls ks, u, lt-leb (met stop k s ks (next i)) at g)
-      (ap (λ (r : Verdict). cond (among (key_of (name_of s i)) ls) (verdict_is.Repeated at) r)
+      (ap (λ (r : Result Unit Fault). cond (among (key_of (name_of s i)) ls) (Err (fault.Repeated at)) r)
       (h (key_of (name_of s i) ∷ ls) (next i)))))
-  unmet_in k ls at entry.End f p h = refl
-  unmet_in k ls at (entry.Broken b) f p h = refl
+  unmet_in k ls at (Ok None) f p h = refl
+  unmet_in k ls at (Err b) f p h = refl
 
   unmet : (k : ℕ) (ls : List ℕ) (at : ℕ) → judge stop k s (ls ++ ks) at ≡ judge (met stop k s ks at) k s ls at
   unfolding judge met

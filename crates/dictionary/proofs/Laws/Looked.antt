@@ -14,8 +14,8 @@ use Rattle.slices.specs.Stretch.{Stretch, behind}
 use Rattle.refusals.specs.Numbers.{of_refusal, place_of}
 use Rattle.refusals.specs.declared.Refusal.{Refusal}
 use Rattle.refusals.proofs.Laws.Numbers.{of_refusal_inj, of_refusal_positive}
-use Rattle.dictionary.specs.declared.Found.{Found}
-use Rattle.dictionary.specs.declared.Found.TheVariants.{At, Absent, Refused}
+use Rattle.std.specs.Prelude.{Option, Some, None, Result, Ok, Err}
+use Rattle.dictionary.specs.declared.Value.{Value}
 use Rattle.dictionary.specs.Dictionary.{find, shown, lookup}
 use Rattle.dictionary.specs.Lookup.{Told, told, Looked}
 use Rattle.dictionary.proofs.Laws.Find.{find_within}
@@ -27,7 +27,7 @@ module _ (d name r : Bor (List ℕ)) where
       let m : min 0 (length d.now) ≡ 0 = omega arith in
       s.place ∙ ap (λ (k : ℕ). behind k d.ref_ptr) m
 
-  pub looked_at : (kind start n : ℕ) → find d.now name.now ≡ At kind start n → Stretch d start n r
+  pub looked_at : (kind start n : ℕ) → find d.now name.now ≡ Ok (Some (record { kind = kind; start = start; length = n })) → Stretch d start n r
       → Looked d name r 0 0 true kind
   unfolding lookup shown told
   looked_at kind start n e s =
@@ -42,7 +42,7 @@ module _ (d name r : Bor (List ℕ)) where
         kind_is = rw e;
       }
 
-  pub looked_absent : find d.now name.now ≡ Absent → Stretch d 0 0 r → Looked d name r 0 0 false 0
+  pub looked_absent : find d.now name.now ≡ Ok None → Stretch d 0 0 r → Looked d name r 0 0 false 0
   unfolding lookup shown told
   looked_absent e s =
       record {
@@ -54,7 +54,7 @@ module _ (d name r : Bor (List ℕ)) where
         kind_is = rw e;
       }
 
-  pub looked_refused : (x : Refusal) {number place : ℕ} → find d.now name.now ≡ Refused x → number ≡ of_refusal x
+  pub looked_refused : (x : Refusal) {number place : ℕ} → find d.now name.now ≡ Err x → number ≡ of_refusal x
       → place ≡ place_of x → Stretch d 0 0 r → Looked d name r number place false 0
   unfolding lookup shown told
   looked_refused x e n p s =
@@ -68,38 +68,38 @@ module _ (d name r : Bor (List ℕ)) where
       }
 
 -- the length of what is shown of a name that is found
-abbrev size_of : Found → ℕ
-size_of (At kind start n) = n
-size_of Absent = 0
-size_of (Refused x) = 0
+abbrev size_of : Result (Option Value) Refusal → ℕ
+size_of (Ok (Some v)) = v.length
+size_of (Ok None) = 0
+size_of (Err x) = 0
 
 -- what is told, with the stretch that is shown, leaves nothing open: found, empty or not, absent and refused differ
-pub told_inj : (f g : Found) → told f ≡ told g → size_of f ≡ size_of g → f ≡ g
+pub told_inj : (f g : Result (Option Value) Refusal) → told f ≡ told g → size_of f ≡ size_of g → f ≡ g
 unfolding told
-told_inj (At k s n) (At l t m) e h =
-    let p : k ≡ l = ap (λ (x : Told). x.kind) e in
-    let q : s ≡ t = ap (λ (x : Told). x.start) e in
-    cc
-told_inj (At k s n) Absent e h =
+told_inj (Ok (Some v)) (Ok (Some w)) e h =
+    ap (λ (x : ℕ). Ok (Some (record { kind = x; start = v.start; length = v.length }))) (ap (λ (x : Told). x.kind) e)
+    ∙ ap (λ (x : ℕ). Ok (Some (record { kind = w.kind; start = x; length = v.length }))) (ap (λ (x : Told). x.start) e)
+    ∙ ap (λ (x : ℕ). Ok (Some (record { kind = w.kind; start = w.start; length = x }))) h
+told_inj (Ok (Some v)) (Ok None) e h =
     let p : true ≡ false = ap (λ (x : Told). x.found) e in
     let z : ◌≡◌ {A = ℕ} 0 1 = cc in absurd (omega arith)
-told_inj (At k s n) (Refused y) e h =
+told_inj (Ok (Some v)) (Err y) e h =
     let p : true ≡ false = ap (λ (x : Told). x.found) e in
     let z : ◌≡◌ {A = ℕ} 0 1 = cc in absurd (omega arith)
-told_inj Absent (At l t m) e h =
+told_inj (Ok None) (Ok (Some v)) e h =
     let p : false ≡ true = ap (λ (x : Told). x.found) e in
     let z : ◌≡◌ {A = ℕ} 0 1 = cc in absurd (omega arith)
-told_inj Absent Absent e h = refl
-told_inj Absent (Refused y) e h =
+told_inj (Ok None) (Ok None) e h = refl
+told_inj (Ok None) (Err y) e h =
     let p : 0 ≡ of_refusal y = ap (λ (x : Told). x.number) e in
     let l = of_refusal_positive y in
     absurd (omega arith)
-told_inj (Refused x) (At l t m) e h =
+told_inj (Err x) (Ok (Some v)) e h =
     let p : false ≡ true = ap (λ (x : Told). x.found) e in
     let z : ◌≡◌ {A = ℕ} 0 1 = cc in absurd (omega arith)
-told_inj (Refused x) Absent e h =
+told_inj (Err x) (Ok None) e h =
     let p : of_refusal x ≡ 0 = ap (λ (x : Told). x.number) e in
     let l = of_refusal_positive x in
     absurd (omega arith)
-told_inj (Refused x) (Refused y) e h =
-    ap Refused (of_refusal_inj x y (ap (λ (x : Told). x.number) e) (ap (λ (x : Told). x.place) e))
+told_inj (Err x) (Err y) e h =
+    ap Err (of_refusal_inj x y (ap (λ (x : Told). x.number) e) (ap (λ (x : Told). x.place) e))

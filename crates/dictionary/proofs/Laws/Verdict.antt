@@ -13,11 +13,10 @@ use lib.Dec.{eqb}
 use lib.ListN.{length, get_or}
 use borrow.Author.Tests.{le-ltb, lt-leb, eq-eqb}
 use Rattle.words.specs.Endian.{Bytes}
-use Rattle.dictionary.specs.declared.Verdict.{Verdict}
-use Rattle.dictionary.specs.declared.Verdict.TheVariants as verdict_is
+use Rattle.dictionary.specs.declared.Fault.TheVariants as fault
+use Rattle.dictionary.specs.declared.Fault.{Fault}
 use Rattle.dictionary.specs.declared.Item.{Item}
-use Rattle.dictionary.specs.declared.Entry.{Entry}
-use Rattle.dictionary.specs.declared.Entry.TheVariants as entry
+use Rattle.std.specs.Prelude.{Option, Some, None, Result, Ok, Err}
 use Rattle.dictionary.specs.Dictionary.{entry_at, name_of, next, named_in, named, walk_in, walk, verdict}
 use Rattle.dictionary.specs.Order.{key_of, among}
 use Rattle.dictionary.specs.Repeats.{judge_in, judge}
@@ -51,7 +50,7 @@ module _ (s : List ℕ) (b : Bytes s) where
       none true = refl
       none false = refl
 
-  one_more : (at : ℕ) (i : Item) (stop : ℕ) (name : List ℕ) → entry_at s at ≡ entry.Item i → next i ≤ stop → Bytes name
+  one_more : (at : ℕ) (i : Item) (stop : ℕ) (name : List ℕ) → entry_at s at ≡ Ok (Some i) → next i ≤ stop → Bytes name
       → named (length s) s at stop name
       ≡ cond (eqb (key_of (name_of s i)) (key_of name)) true (named (length s) s (next i) stop name)
   unfolding named_in
@@ -59,12 +58,12 @@ module _ (s : List ℕ) (b : Bytes s) where
       let w = entry_at_within s at i p in
       let far = next_far s at i p in
       let m =
-      named_more (length s) s at stop name (entry.Item i) (omega (arith, w.next_le)) (omega arith) (sym p) in
+      named_more (length s) s at stop name (Ok (Some i)) (omega (arith, w.next_le)) (omega arith) (sym p) in
       m
       ∙ ap₂ (λ (r q : Bool). cond r true q) (same_key (name_of s i) name (name_bytes i) f)
       (named_enough (length s - 1) (length s) s (next i) stop name (omega arith) (omega arith))
 
-  split_more : (ks : List ℕ) (at : ℕ) (i : Item) → entry_at s at ≡ entry.Item i → Split s ks at
+  split_more : (ks : List ℕ) (at : ℕ) (i : Item) → entry_at s at ≡ Ok (Some i) → Split s ks at
       → Split s (key_of (name_of s i) ∷ ks) (next i)
   unfolding among
   split_more ks at i p h stop name l f =
@@ -79,21 +78,21 @@ module _ (s : List ℕ) (b : Bytes s) where
       regroup false true d = refl
       regroup false false d = refl
 
-  walk_in_lem : (ks : List ℕ) (at : ℕ) (e : Entry) (f : ℕ → Verdict) (g : List ℕ → ℕ → Verdict) → entry_at s at ≡ e
+  walk_in_lem : (ks : List ℕ) (at : ℕ) (e : Result (Option Item) ℕ) (f : ℕ → Result Unit Fault) (g : List ℕ → ℕ → Result Unit Fault) → entry_at s at ≡ e
       → Split s ks at
       → ((ls : List ℕ) (n : ℕ) → Split s ls n → f n ≡ g ls n)
       → walk_in s at e f ≡ judge_in (length s) s ks at e g
   unfolding walk_in judge_in
-  walk_in_lem ks at (entry.Item i) f g p h r =
+  walk_in_lem ks at (Ok (Some i)) f g p h r =
       let w = entry_at_within s at i p in
       let far = next_far s at i p in
       let l : at < length s = omega (arith, w.next_le) in
       rw (lt-leb (length s) at l)
-      (ap₂ (λ (c : Bool) (o : Verdict). cond c (verdict_is.Repeated at) o)
+      (ap₂ (λ (c : Bool) (o : Result Unit Fault). cond c (Err (fault.Repeated at)) o)
       (split_here ks at (name_of s i) h (name_bytes i))
       (r (key_of (name_of s i) ∷ ks) (next i) (split_more ks at i p h)))
-  walk_in_lem ks at entry.End f g p h r = refl
-  walk_in_lem ks at (entry.Broken b) f g p h r = refl
+  walk_in_lem ks at (Ok None) f g p h r = refl
+  walk_in_lem ks at (Err b) f g p h r = refl
 
   walk-judge : (k : ℕ) (ks : List ℕ) (at : ℕ) → Split s ks at → walk k s at ≡ judge (length s) k s ks at
   unfolding walk judge

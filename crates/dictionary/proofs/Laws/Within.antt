@@ -11,40 +11,37 @@ use lib.ListN.{length, get_or, take, drop, length-take, length-drop}
 use borrow.Author.Tests.{leb-false}
 use Rattle.words.specs.Endian.{le}
 use Rattle.words.specs.Size.{int32}
-use Rattle.words.specs.declared.le.Size.{Size}
-use Rattle.words.specs.declared.le.Size.TheVariants.{Of, Negative}
+use Rattle.std.specs.Prelude.{Option, Some, None, Result, Ok, Err}
 use Rattle.words.proofs.Laws.Cases.{by_bool}
 use Rattle.dictionary.specs.declared.Item.{Item}
-use Rattle.dictionary.specs.declared.Entry.{Entry}
-use Rattle.dictionary.specs.declared.Entry.TheVariants as entry
-use Rattle.dictionary.specs.declared.Verdict.{Verdict}
-use Rattle.dictionary.specs.declared.Verdict.TheVariants as verdict_is
+use Rattle.dictionary.specs.declared.Fault.TheVariants as fault
+use Rattle.dictionary.specs.declared.Fault.{Fault}
 use Rattle.dictionary.specs.Dictionary.{size_fits_type, value_at, name_at, entry_at, name_of, next, named, walk_in, walk, verdict}
 use Rattle.dictionary.proofs.Laws.Entry.{entry_at_within}
 
 -- the place of a fault is no further than n
-abbrev pub Placed : ℕ → Verdict → Type 0
-Placed n verdict_is.Sound = 0 ≤ 0
-Placed n (verdict_is.Broken at) = at ≤ n
-Placed n (verdict_is.Repeated at) = at ≤ n
+abbrev pub Placed : ℕ → Result Unit Fault → Type 0
+Placed n (Ok tt) = 0 ≤ 0
+Placed n (Err (fault.Broken at)) = at ≤ n
+Placed n (Err (fault.Repeated at)) = at ≤ n
 
-abbrev BrokenAt : ℕ → Entry → Type 0
-BrokenAt n (entry.Item i) = 0 ≤ 0
-BrokenAt n entry.End = 0 ≤ 0
-BrokenAt n (entry.Broken b) = b ≤ n
+abbrev BrokenAt : ℕ → Result (Option Item) ℕ → Type 0
+BrokenAt n (Ok (Some i)) = 0 ≤ 0
+BrokenAt n (Ok None) = 0 ≤ 0
+BrokenAt n (Err b) = b ≤ n
 
-value_at-placed : (s : List ℕ) (at n : ℕ) (v : Size) (m : ℕ) → at ≤ m → BrokenAt m (value_at s at n v)
+value_at-placed : (s : List ℕ) (at n : ℕ) (v : Option ℕ) (m : ℕ) → at ≤ m → BrokenAt m (value_at s at n v)
 unfolding value_at
-value_at-placed s at n Negative m h = h
-value_at-placed s at n (Of v) m h =
+value_at-placed s at n None m h = h
+value_at-placed s at n (Some v) m h =
     by_bool (ltb (length s - (at + 5 + n + 4)) v)
     (λ t. rw t h)
     (λ t. by_bool (size_fits_type (get_or s at 0) v) (λ u. rw (t, u) (omega arith)) (λ u. rw (t, u) h))
 
-name_at-placed : (s : List ℕ) (at : ℕ) (n : Size) (m : ℕ) → at ≤ m → BrokenAt m (name_at s at n)
+name_at-placed : (s : List ℕ) (at : ℕ) (n : Option ℕ) (m : ℕ) → at ≤ m → BrokenAt m (name_at s at n)
 unfolding name_at
-name_at-placed s at Negative m h = h
-name_at-placed s at (Of n) m h =
+name_at-placed s at None m h = h
+name_at-placed s at (Some n) m h =
     by_bool (ltb (length s - (at + 5)) (n + 4))
     (λ t. rw t h)
     (λ t. rw t (value_at-placed s at n (int32 (le 4 s (at + 5 + n))) m h))
@@ -62,14 +59,14 @@ entry_at-placed s at =
     (omega (arith, leb-false (length s) at t))))))
 
 module _ (s : List ℕ) where
-  walk_in_lem : (at : ℕ) (e : Entry) (f : ℕ → Verdict) → BrokenAt (length s - 1) e
-      → ((i : Item) → e ≡ entry.Item i → at ≤ length s - 1) → ((n : ℕ) → Placed (length s - 1) (f n))
+  walk_in_lem : (at : ℕ) (e : Result (Option Item) ℕ) (f : ℕ → Result Unit Fault) → BrokenAt (length s - 1) e
+      → ((i : Item) → e ≡ Ok (Some i) → at ≤ length s - 1) → ((n : ℕ) → Placed (length s - 1) (f n))
       → Placed (length s - 1) (walk_in s at e f)
   unfolding walk_in
-  walk_in_lem at (entry.Item i) f b h g =
+  walk_in_lem at (Ok (Some i)) f b h g =
       by_bool (named (length s) s 2 at (name_of s i)) (λ t. rw t (h i refl)) (λ t. rw t (g (next i)))
-  walk_in_lem at entry.End f b h g = omega arith
-  walk_in_lem at (entry.Broken b) f l h g = l
+  walk_in_lem at (Ok None) f b h g = omega arith
+  walk_in_lem at (Err b) f l h g = l
 
   walk-placed : (k at : ℕ) → Placed (length s - 1) (walk k s at)
   unfolding walk
@@ -90,15 +87,15 @@ pub part_end_lt : (n at : ℕ) (s : List ℕ) (m : ℕ) → at < m → length s 
 part_end_lt n at s m h k = simp (length-take, length-drop) (omega arith)
 
 -- a fault's place lies within the part
-pub broken_lt : (n at : ℕ) (s d : List ℕ) (v : Verdict) (x m : ℕ) → d ≡ take n (drop at s) → v ≡ verdict d
-    → v ≡ verdict_is.Broken x → at < m → length s < m → at + x < m
+pub broken_lt : (n at : ℕ) (s d : List ℕ) (v : Result Unit Fault) (x m : ℕ) → d ≡ take n (drop at s) → v ≡ verdict d
+    → v ≡ Err (fault.Broken x) → at < m → length s < m → at + x < m
 broken_lt n at s d v x m e q r h k =
     let p = rw (sym q ∙ r) at (verdict-placed d) in
     let l = part_end_lt n at s m h k in
     omega (arith, ap length e)
 
-pub repeated_lt : (n at : ℕ) (s d : List ℕ) (v : Verdict) (x m : ℕ) → d ≡ take n (drop at s) → v ≡ verdict d
-    → v ≡ verdict_is.Repeated x → at < m → length s < m → at + x < m
+pub repeated_lt : (n at : ℕ) (s d : List ℕ) (v : Result Unit Fault) (x m : ℕ) → d ≡ take n (drop at s) → v ≡ verdict d
+    → v ≡ Err (fault.Repeated x) → at < m → length s < m → at + x < m
 repeated_lt n at s d v x m e q r h k =
     let p = rw (sym q ∙ r) at (verdict-placed d) in
     let l = part_end_lt n at s m h k in

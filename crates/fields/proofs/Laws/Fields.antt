@@ -14,13 +14,11 @@ use lib.ListN.{length, get_or}
 use borrow.Author.Tests.{leb-true}
 use Rattle.words.specs.Endian.{le}
 use Rattle.words.specs.Size.{int32}
-use Rattle.words.specs.declared.le.Size.{Size}
-use Rattle.words.specs.declared.le.Size.TheVariants.{Of, Negative}
+use Rattle.std.specs.Prelude.{Option, Some, None, Result, Ok, Err}
 use Rattle.words.proofs.Laws.Cases.{by_bool}
 use Rattle.fields.specs.declared.Place.{Place}
 use Rattle.fields.specs.declared.SizeRule.{SizeRule}
-use Rattle.fields.specs.declared.Field.{Field}
-use Rattle.fields.specs.declared.Field.TheVariants as field
+use Rattle.refusals.specs.declared.Refusal.{Refusal}
 use Rattle.fields.specs.Fields.{fits, value_at, field_at}
 
 -- what a field that is found keeps to
@@ -30,14 +28,14 @@ pub record Stands (s : List ℕ) (at id : ℕ) (p : Place) : Type 0 where
   pub within : p.start + p.length ≤ length s
 
 -- nothing is said of a refusal
-abbrev Kept : List ℕ → ℕ → Field → Type 0
-Kept s at (field.At id p) = Stands s at id p
-Kept s at (field.Refused r) = 0 ≤ 0
+abbrev Kept : List ℕ → ℕ → Result (ℕ × Place) Refusal → Type 0
+Kept s at (Ok (id, p)) = Stands s at id p
+Kept s at (Err r) = 0 ≤ 0
 
-value_at_kept : (rule : SizeRule) (s : List ℕ) (at : ℕ) (z : Size) → at + 5 ≤ length s → Kept s at (value_at rule s at z)
+value_at_kept : (rule : SizeRule) (s : List ℕ) (at : ℕ) (z : Option ℕ) → at + 5 ≤ length s → Kept s at (value_at rule s at z)
 unfolding value_at
-value_at_kept rule s at Negative h = omega arith
-value_at_kept rule s at (Of n) h =
+value_at_kept rule s at None h = omega arith
+value_at_kept rule s at (Some n) h =
     by_bool (fits rule n)
     (λ t. by_bool (leb n (length s - (at + 5)))
     (λ u. rw (t, u) (record {
@@ -60,5 +58,5 @@ field_at_kept l r rule s at =
     (λ t. rw t (omega arith))
 
 pub field_at_stands : (l r : Bool) (rule : SizeRule) (s : List ℕ) (at id : ℕ) (p : Place)
-    → field_at l r rule s at ≡ field.At id p → Stands s at id p
+    → field_at l r rule s at ≡ Ok (id, p) → Stands s at id p
 field_at_stands l r rule s at id p e = rw e at (field_at_kept l r rule s at)

@@ -24,15 +24,13 @@ use lib.Seq.{get_or-append_seam, get_or-append-add, drop-append_seam, drop-appen
 use borrow.Author.Tests.{le-leb, lt-ltb, leb-true}
 use Rattle.words.specs.Endian.{le, le_bytes}
 use Rattle.words.specs.Size.{int32}
-use Rattle.words.specs.declared.le.Size.{Size}
-use Rattle.words.specs.declared.le.Size.TheVariants.{Of, Negative}
+use Rattle.std.specs.Prelude.{Option, Some, None, Result, Ok, Err}
 use Rattle.words.proofs.Laws.Cases.{by_bool}
 use Rattle.words.proofs.Laws.Endian.{le-drop, le-append, le-le_bytes, length-le_bytes}
 use Rattle.refusals.specs.declared.Refusal.TheVariants.{CutShort, WrongSize}
 use Rattle.fields.specs.declared.Place.{Place}
 use Rattle.fields.specs.declared.SizeRule.{SizeRule}
-use Rattle.fields.specs.declared.Field.{Field}
-use Rattle.fields.specs.declared.Field.TheVariants as field
+use Rattle.refusals.specs.declared.Refusal.{Refusal}
 use Rattle.fields.proofs.Laws.Fields.{field_at_stands}
 use Rattle.fields.specs.Fields.{bytes_at, fits, value_at, field_at, field_bytes}
 
@@ -56,7 +54,7 @@ module _ (before : List ℕ) (id : ℕ) (value rest : List ℕ) where
   le_front = refl
 
   pub size_written : length value < 2 ^ 31
-      → int32 (le 4 (before ++ field_bytes id value ++ rest) (length before + 1)) ≡ Of (length value)
+      → int32 (le 4 (before ++ field_bytes id value ++ rest) (length before + 1)) ≡ Some (length value)
   unfolding int32
   size_written h =
       let m : length value % 256 ^ 4 ≡ length value = omega arith in
@@ -81,7 +79,7 @@ module _ (before : List ℕ) (id : ℕ) (value rest : List ℕ) where
 
   pub field_at_written : (rule : SizeRule) → length value < 2 ^ 31 → fits rule (length value) ≡ true
       → field_at true false rule (before ++ field_bytes id value ++ rest) (length before)
-      ≡ field.At id (record { start = length before + 5; length = length value })
+      ≡ Ok (id, record { start = length before + 5; length = length value })
   unfolding field_at value_at
   field_at_written rule h f =
       let l = length_written in
@@ -95,15 +93,15 @@ pub record Passed (l r : Bool) (rule : SizeRule) (p : Place) : Type 0 where
   pub new_is : r ≡ false
   pub fits_is : fits rule p.length ≡ true
 
-abbrev HasPassed : Bool → Bool → SizeRule → Field → Type 0
-HasPassed l r rule (field.At id p) = Passed l r rule p
-HasPassed l r rule (field.Refused x) = 0 ≤ 0
+abbrev HasPassed : Bool → Bool → SizeRule → Result (ℕ × Place) Refusal → Type 0
+HasPassed l r rule (Ok (id, p)) = Passed l r rule p
+HasPassed l r rule (Err x) = 0 ≤ 0
 
-value_at-passes : (l r : Bool) (rule : SizeRule) (s : List ℕ) (at : ℕ) (z : Size) → l ≡ true → r ≡ false
+value_at-passes : (l r : Bool) (rule : SizeRule) (s : List ℕ) (at : ℕ) (z : Option ℕ) → l ≡ true → r ≡ false
     → HasPassed l r rule (value_at rule s at z)
 unfolding value_at
-value_at-passes l r rule s at Negative a b = omega arith
-value_at-passes l r rule s at (Of n) a b =
+value_at-passes l r rule s at None a b = omega arith
+value_at-passes l r rule s at (Some n) a b =
     by_bool (fits rule n)
     (λ t. by_bool (leb n (length s - (at + 5)))
     (λ u. rw (t, u) (record { listed_is = a; new_is = b; fits_is = t }))
@@ -122,7 +120,7 @@ field_at-passes l r rule s at =
     (λ t. rw t (omega arith))
 
 pub field_at_passed : (l r : Bool) (rule : SizeRule) (s : List ℕ) (at id : ℕ) (p : Place)
-    → field_at l r rule s at ≡ field.At id p → Passed l r rule p
+    → field_at l r rule s at ≡ Ok (id, p) → Passed l r rule p
 field_at_passed l r rule s at id p e = rw e at (field_at-passes l r rule s at)
 
 -- a place of a part, in the whole
@@ -130,9 +128,9 @@ abbrev pub further : ℕ → Place → Place
 further n p = record { start = n + p.start; length = p.length }
 
 -- a field that is found, further on
-abbrev shift : ℕ → Field → Field
-shift n (field.At id p) = field.At id (further n p)
-shift n (field.Refused r) = field.Refused r
+abbrev shift : ℕ → Result (ℕ × Place) Refusal → Result (ℕ × Place) Refusal
+shift n (Ok (id, p)) = Ok (id, further n p)
+shift n (Err r) = Err r
 
 module _ (before s rest : List ℕ) where
   pub le_inside : (n at : ℕ) → at + n ≤ length s → le n (before ++ s ++ rest) (length before + at) ≡ le n s at
@@ -155,29 +153,29 @@ module _ (before s rest : List ℕ) where
   longer : length (before ++ s ++ rest) ≡ length before + length s + length rest
   longer = simp length-append
 
-  value_at_inside : (rule : SizeRule) (at id : ℕ) (p : Place) (z : Size) → at + 5 ≤ length s
-      → value_at rule s at z ≡ field.At id p
-      → value_at rule (before ++ s ++ rest) (length before + at) z ≡ field.At id (further (length before) p)
+  value_at_inside : (rule : SizeRule) (at id : ℕ) (p : Place) (z : Option ℕ) → at + 5 ≤ length s
+      → value_at rule s at z ≡ Ok (id, p)
+      → value_at rule (before ++ s ++ rest) (length before + at) z ≡ Ok (id, further (length before) p)
   unfolding value_at
-  value_at_inside rule at id p Negative h e = let z : ◌≡◌ {A = ℕ} 0 1 = cc in absurd (omega arith)
-  value_at_inside rule at id p (Of n) h e =
+  value_at_inside rule at id p None h e = let z : ◌≡◌ {A = ℕ} 0 1 = cc in absurd (omega arith)
+  value_at_inside rule at id p (Some n) h e =
       by_bool (fits rule n)
       (λ t. by_bool (leb n (length s - (at + 5)))
-      (λ u. let d : field.At (get_or s at 0) (record { start = at + 5; length = n }) ≡ field.At id p = rw (t, u) at e in
+      (λ u. let d : Ok (get_or s at 0, record { start = at + 5; length = n }) ≡ Ok (id, p) = rw (t, u) at e in
       let m = leb-true n (length s - (at + 5)) u in
       let l = longer in
       let k : n ≤ length (before ++ s ++ rest) - (length before + at + 5) = omega arith in
       rw (t, le-leb _ _ k, get_or_inside at (omega arith), add_assoc (length before) at 5)
       (ap (shift (length before)) d))
-      (λ u. let d : field.Refused (CutShort (length s)) ≡ field.At id p = rw (t, u) at e in
+      (λ u. let d : Err (CutShort (length s)) ≡ Ok (id, p) = rw (t, u) at e in
       let z : ◌≡◌ {A = ℕ} 0 1 = cc in
       absurd (omega arith)))
-      (λ t. let d : field.Refused (WrongSize at) ≡ field.At id p = rw t at e in
+      (λ t. let d : Err (WrongSize at) ≡ Ok (id, p) = rw t at e in
       let z : ◌≡◌ {A = ℕ} 0 1 = cc in
       absurd (omega arith))
 
-  pub field_at_inside : (l r : Bool) (rule : SizeRule) (at id : ℕ) (p : Place) → field_at l r rule s at ≡ field.At id p
-      → field_at l r rule (before ++ s ++ rest) (length before + at) ≡ field.At id (further (length before) p)
+  pub field_at_inside : (l r : Bool) (rule : SizeRule) (at id : ℕ) (p : Place) → field_at l r rule s at ≡ Ok (id, p)
+      → field_at l r rule (before ++ s ++ rest) (length before + at) ≡ Ok (id, further (length before) p)
   unfolding field_at
   field_at_inside l r rule at id p e =
       let q = field_at_passed l r rule s at id p e in

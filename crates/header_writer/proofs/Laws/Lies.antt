@@ -20,10 +20,9 @@ use Rattle.words.specs.Endian.{le}
 use Rattle.slices.proofs.Laws.Same.{same_refl}
 use Rattle.fields.specs.Fields.{bytes_at, end_of, fits, field_bytes}
 use Rattle.fields.specs.declared.Place.{Place}
-use Rattle.fields.specs.declared.Field.TheVariants as field
+use Rattle.std.specs.Prelude.{Ok}
 use Rattle.fields.proofs.Laws.Written.{id_written, bytes_at_written, field_at_written, le_inside, length-field_bytes}
 use Rattle.outer_header.specs.declared.walk.Fields.{Fields}
-use Rattle.outer_header.specs.declared.walk.Walked.TheVariants as walked
 use Rattle.outer_header.specs.Kdbx4Header.{listed, size_rule, seen, put, field_here, ends_right, walk_in, walk}
 use Rattle.outer_header.proofs.Laws.Walk.{walk_more}
 use Rattle.header_writer.specs.Written.{end_bytes}
@@ -59,7 +58,7 @@ module _ (s : List ℕ) (at id : ℕ) (value : List ℕ) (p : Place) (w : Lies s
   module _ (f : Fields) (l : listed id ≡ true) (n : seen f id ≡ false) (z : fits (size_rule id) p.length ≡ true)
       (small : p.length < 2 ^ 31) where
     here : field_here f (w.before ++ field_bytes id value ++ w.after) (length w.before)
-        ≡ field.At id (record { start = length w.before + 5; length = length value })
+        ≡ Ok (id, record { start = length w.before + 5; length = length value })
     unfolding field_here
     here =
         let m = w.length_is in
@@ -67,25 +66,25 @@ module _ (s : List ℕ) (at id : ℕ) (value : List ℕ) (p : Place) (w : Lies s
         let b : length value < 2 ^ 31 = omega arith in
         rw (i, l, n) (field_at_written w.before id value w.after (size_rule id) b (rw m z))
 
-    pub field_here_lies : field_here f s at ≡ field.At id p
+    pub field_here_lies : field_here f s at ≡ Ok (id, p)
     field_here_lies =
         ap₂ (λ (x : List ℕ) (m : ℕ). field_here f x m) w.whole (sym w.at_is)
-        ∙ here ∙ ap (λ (q : Place). field.At id q) place_is
+        ∙ here ∙ ap (λ (q : Place). Ok (id, q)) place_is
 
     pub walk_lies : (k next : ℕ) → 0 < k → (id ≡ 0 → ⊥) → end_of p ≡ next
         → walk k f s at ≡ walk (k - 1) (put f id p) s next
     unfolding walk_in
     walk_lies k next h o e =
-        walk_more k f s at (field.At id p) h (sym field_here_lies)
+        walk_more k f s at (Ok (id, p)) h (sym field_here_lies)
         ∙ rw (ne_eqb id 0 o, e)
 
 pub walk_end : (s : List ℕ) (at : ℕ) (p : Place) (f : Fields) (k end : ℕ) → Lies s at 0 end_bytes p → 0 < k
     → end_of p ≡ end
-    → walk k f s at ≡ walked.Ended f end
+    → walk k f s at ≡ Ok (f, end)
 unfolding walk_in ends_right listed seen size_rule fits
 walk_end s at p f k end w h e =
     let m : p.length ≡ 4 = sym w.length_is in
     let b : bytes_at s p ≡ end_bytes = bytes_at_lies s at 0 end_bytes p w in
     let z : fits (size_rule 0) p.length ≡ true = rw m in
-    let i : field_here f s at ≡ field.At 0 p = field_here_lies s at 0 end_bytes p w f refl refl z (omega arith) in
-    walk_more k f s at (field.At 0 p) h (sym i) ∙ rw (b, same_refl end_bytes, e)
+    let i : field_here f s at ≡ Ok (0, p) = field_here_lies s at 0 end_bytes p w f refl refl z (omega arith) in
+    walk_more k f s at (Ok (0, p)) h (sym i) ∙ rw (b, same_refl end_bytes, e)

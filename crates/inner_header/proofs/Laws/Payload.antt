@@ -25,8 +25,8 @@ use Rattle.words.proofs.Laws.Cases.{by_bool}
 use Rattle.words.proofs.Laws.Endian.{le-drop, le-take, le-le_bytes, length-le_bytes}
 use Rattle.fields.specs.declared.Place.{Place}
 use Rattle.fields.specs.declared.SizeRule.TheVariants.{AtLeast}
-use Rattle.fields.specs.declared.Field.{Field}
-use Rattle.fields.specs.declared.Field.TheVariants as field
+use Rattle.std.specs.Prelude.{Result, Ok, Err}
+use Rattle.refusals.specs.declared.Refusal.{Refusal}
 use Rattle.fields.specs.Fields.{bytes_at, end_of, fits, field_bytes, nowhere}
 use Rattle.fields.proofs.Laws.Written.{
   length-field_bytes,
@@ -46,7 +46,7 @@ use Rattle.inner_header.proofs.Laws.Run.{run_at_stands}
 pub field_of_written : (a k : Place) (front : List ℕ) (id : ℕ) (value rest : List ℕ) (at : ℕ) → length front ≡ at
     → listed id ≡ true → repeated a k id ≡ false → fits (rule_of id) (length value) ≡ true → length value < 2 ^ 31
     → field_of a k (front ++ field_bytes id value ++ rest) at
-    ≡ field.At id (record { start = at + 5; length = length value })
+    ≡ Ok (id, record { start = at + 5; length = length value })
 unfolding field_of
 field_of_written a k front id value rest at n l r f h =
     rw (← n, id_written front id value rest, l, r) (field_at_written front id value rest (rule_of id) h f)
@@ -79,10 +79,10 @@ attached_more f p l = rw (append_assoc f.attachments (p ∷ []) l)
 
 module _ (front s rest : List ℕ) where
   -- a field of the run is one of the payload
-  run_at_inside : (f : Fields) (at id : ℕ) (p : Place) → run_at s at ≡ field.At id p
+  run_at_inside : (f : Fields) (at id : ℕ) (p : Place) → run_at s at ≡ Ok (id, p)
       → (id ≡ 3)
       × (field_of f.algorithm f.key (front ++ s ++ rest) (length front + at)
-      ≡ field.At 3 (further (length front) p))
+      ≡ Ok (3, further (length front) p))
   unfolding run_at field_of repeated rule_of
   run_at_inside f at id p e =
       let w = run_at_stands s at id p e in
@@ -103,7 +103,7 @@ module _ (front s rest : List ℕ) where
       let z : l ≡ [] = cc in
       rw (z, attached-nil f, e)
 
-  over_more : (f : Fields) (at id : ℕ) (p : Place) (l m : List Place) → run_at s at ≡ field.At id p
+  over_more : (f : Fields) (at id : ℕ) (p : Place) (l m : List Place) → run_at s at ≡ Ok (id, p)
       → all_fine (p ∷ m) ≡ all_fine l
       → ((g : Fields) → Over g (end_of p) m)
       → Over f at l
@@ -118,7 +118,7 @@ module _ (front s rest : List ℕ) where
       (rw z (attached_more f (further b p) (placed b m)))
 
   -- the rest of the run, by what its walk gave
-  over_rest : (f : Fields) (at id : ℕ) (p : Place) (l : List Place) (w : Run) → run_at s at ≡ field.At id p
+  over_rest : (f : Fields) (at id : ℕ) (p : Place) (l : List Place) (w : Run) → run_at s at ≡ Ok (id, p)
       → before p w ≡ all_fine l
       → ((m : List Place) → w ≡ all_fine m → (g : Fields) → Over g (end_of p) m)
       → Over f at l
@@ -126,13 +126,13 @@ module _ (front s rest : List ℕ) where
   over_rest f at id p l (all_fine m) e g h = over_more f at id p l m e g (h m refl)
   over_rest f at id p l (refused r) e g h = let z : ◌≡◌ {A = ℕ} 0 1 = cc in absurd (omega arith)
 
-  over_field : (f : Fields) (at k : ℕ) (l : List Place) (e : Field) → run_at s at ≡ e → run_in e (run_from k s) ≡ all_fine l
-      → ((id : ℕ) (p : Place) → e ≡ field.At id p → (m : List Place) → run_from k s (end_of p) ≡ all_fine m → (g : Fields)
+  over_field : (f : Fields) (at k : ℕ) (l : List Place) (e : Result (ℕ × Place) Refusal) → run_at s at ≡ e → run_in e (run_from k s) ≡ all_fine l
+      → ((id : ℕ) (p : Place) → e ≡ Ok (id, p) → (m : List Place) → run_from k s (end_of p) ≡ all_fine m → (g : Fields)
       → Over g (end_of p) m)
       → Over f at l
   unfolding run_in
-  over_field f at k l (field.At id p) e g h = over_rest f at id p l (run_from k s (end_of p)) e g (h id p refl)
-  over_field f at k l (field.Refused r) e g h = let z : ◌≡◌ {A = ℕ} 0 1 = cc in absurd (omega arith)
+  over_field f at k l (Ok (id, p)) e g h = over_rest f at id p l (run_from k s (end_of p)) e g (h id p refl)
+  over_field f at k l (Err r) e g h = let z : ◌≡◌ {A = ℕ} 0 1 = cc in absurd (omega arith)
 
   pub run_inside : (k : ℕ) (f : Fields) (at : ℕ) (l : List Place) → at ≤ length s → length s ≤ k + at
       → run_from k s at ≡ all_fine l → Over f at l

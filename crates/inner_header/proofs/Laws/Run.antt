@@ -21,15 +21,15 @@ use borrow.Author.Tests.{le-leb, lt-leb, leb-true}
 use Rattle.words.proofs.Laws.Cases.{by_bool}
 use Rattle.fields.specs.declared.Place.{Place}
 use Rattle.fields.specs.declared.SizeRule.TheVariants.{AtLeast}
-use Rattle.fields.specs.declared.Field.{Field}
-use Rattle.fields.specs.declared.Field.TheVariants as field
+use Rattle.std.specs.Prelude.{Result, Ok, Err}
+use Rattle.refusals.specs.declared.Refusal.{Refusal}
 use Rattle.fields.specs.Fields.{end_of, fits}
 use Rattle.fields.proofs.Laws.Fields.{Stands, field_at_stands}
 use Rattle.fields.proofs.Laws.Written.{field_at_passed}
 use Rattle.inner_header.specs.Writer.{Run, all_fine, refused, run_at, before, run_in, run_from, run, verdict}
 use Rattle.inner_header.proofs.Laws.Sound.{Within, Sound}
 
-pub run_at_stands : (s : List ℕ) (at id : ℕ) (p : Place) → run_at s at ≡ field.At id p → Stands s at id p
+pub run_at_stands : (s : List ℕ) (at id : ℕ) (p : Place) → run_at s at ≡ Ok (id, p) → Stands s at id p
 unfolding run_at
 run_at_stands s at id p e = field_at_stands (eqb (get_or s at 0) 3) false (AtLeast 1) s at id p e
 
@@ -38,18 +38,18 @@ unfolding run_from
 run_from_past zero s at h = refl
 run_from_past (suc k) s at h = rw (le-leb (length s) at h)
 
-pub run_from_more : (k : ℕ) (s : List ℕ) (at : ℕ) (e : Field) → 0 < k → at < length s → e ≡ run_at s at
+pub run_from_more : (k : ℕ) (s : List ℕ) (at : ℕ) (e : Result (ℕ × Place) Refusal) → 0 < k → at < length s → e ≡ run_at s at
     → run_from k s at ≡ run_in e (run_from (k - 1) s)
 unfolding run_from
 run_from_more zero s at e h l p = absurd (omega arith)
 run_from_more (suc k) s at e h l p = rw (lt-leb (length s) at l, p, sub-one)
 
 -- two ways on from a field agree: a walk goes on at a field's end alone
-run_in-agree : (e : Field) (g h : ℕ → Run) → ((id : ℕ) (p : Place) → e ≡ field.At id p → g (end_of p) ≡ h (end_of p))
+run_in-agree : (e : Result (ℕ × Place) Refusal) (g h : ℕ → Run) → ((id : ℕ) (p : Place) → e ≡ Ok (id, p) → g (end_of p) ≡ h (end_of p))
     → run_in e g ≡ run_in e h
 unfolding run_in
-run_in-agree (field.At id p) g h a = ap (λ (w : Run). before p w) (a id p refl)
-run_in-agree (field.Refused r) g h a = refl
+run_in-agree (Ok (id, p)) g h a = ap (λ (w : Run). before p w) (a id p refl)
+run_in-agree (Err r) g h a = refl
 
 pub run_from_enough : (k m : ℕ) (s : List ℕ) (at : ℕ) → length s ≤ k + at → length s ≤ m + at
     → run_from k s at ≡ run_from m s at
@@ -72,7 +72,7 @@ unfolding verdict before
 verdict_before p (all_fine l) = refl
 verdict_before p (refused r) = refl
 
-run_at_within : (s : List ℕ) (at id : ℕ) (p : Place) → run_at s at ≡ field.At id p → Within s p
+run_at_within : (s : List ℕ) (at id : ℕ) (p : Place) → run_at s at ≡ Ok (id, p) → Within s p
 unfolding run_at fits
 run_at_within s at id p e =
     let w = run_at_stands s at id p e in
@@ -93,11 +93,11 @@ unfolding before
 before_kept s p (all_fine l) h k = sound-cons s p l h k
 before_kept s p (refused r) h k = omega arith
 
-run_in_kept : (s : List ℕ) (at : ℕ) (e : Field) (rest : ℕ → Run) → run_at s at ≡ e → ((n : ℕ) → Kept s (rest n))
+run_in_kept : (s : List ℕ) (at : ℕ) (e : Result (ℕ × Place) Refusal) (rest : ℕ → Run) → run_at s at ≡ e → ((n : ℕ) → Kept s (rest n))
     → Kept s (run_in e rest)
 unfolding run_in
-run_in_kept s at (field.At id p) rest e h = before_kept s p (rest (end_of p)) (run_at_within s at id p e) (h (end_of p))
-run_in_kept s at (field.Refused r) rest e h = omega arith
+run_in_kept s at (Ok (id, p)) rest e h = before_kept s p (rest (end_of p)) (run_at_within s at id p e) (h (end_of p))
+run_in_kept s at (Err r) rest e h = omega arith
 
 none_sound : (s : List ℕ) → Sound s []
 none_sound s i b = absurd (omega arith)

@@ -14,8 +14,8 @@ use Rattle.refusals.specs.declared.Outcome.{Outcome}
 use Rattle.refusals.specs.declared.Outcome.TheVariants as outcome
 use Rattle.refusals.specs.Limits.{payload_limit}
 use Rattle.fields.specs.declared.Place.{Place}
-use Rattle.fields.specs.declared.Field.{Field}
-use Rattle.fields.specs.declared.Field.TheVariants as field
+use Rattle.std.specs.Prelude.{Result, Ok, Err}
+use Rattle.refusals.specs.declared.Refusal.{Refusal}
 use Rattle.fields.specs.Fields.{end_of, fits, nowhere}
 use Rattle.fields.proofs.Laws.Written.{field_at_passed}
 use Rattle.inner_header.specs.InnerHeader.{
@@ -46,7 +46,7 @@ pub record Within (s : List ℕ) (p : Place) : Type 0 where
 abbrev pub Sound : List ℕ → List Place → Type 0
 Sound s l = (i : ℕ) → i < length l → Within s (get_or l i nowhere)
 
-pub field_of_within : (a k : Place) (s : List ℕ) (at id : ℕ) (p : Place) → field_of a k s at ≡ field.At id p → id ≡ 3
+pub field_of_within : (a k : Place) (s : List ℕ) (at id : ℕ) (p : Place) → field_of a k s at ≡ Ok (id, p) → id ≡ 3
     → Within s p
 unfolding field_of fits rule_of
 field_of_within a k s at id p e z =
@@ -77,12 +77,12 @@ put_sound s f id p h w =
     (λ t. rw t (sound-snoc s f.attachments p h (w (eqb-true id 3 t))))
     (λ t. rw t h)
 
-walk_in_kept : (f : Fields) (s : List ℕ) (e : Field) (rest : Fields → ℕ → Walked) → Sound s f.attachments
-    → ((id : ℕ) (p : Place) → e ≡ field.At id p → id ≡ 3 → Within s p)
+walk_in_kept : (f : Fields) (s : List ℕ) (e : Result (ℕ × Place) Refusal) (rest : Fields → ℕ → Walked) → Sound s f.attachments
+    → ((id : ℕ) (p : Place) → e ≡ Ok (id, p) → id ≡ 3 → Within s p)
     → ((g : Fields) (n : ℕ) → Sound s g.attachments → Kept s (rest g n)) → Kept s (walk_in f e rest)
 unfolding walk_in
-walk_in_kept f s (field.Refused r) rest h w k = omega arith
-walk_in_kept f s (field.At id p) rest h w k =
+walk_in_kept f s (Err r) rest h w k = omega arith
+walk_in_kept f s (Ok (id, p)) rest h w k =
     by_bool (eqb id 0)
     (λ t. rw t h)
     (λ t. rw t (k (put f id p) (end_of p) (put_sound s f id p h (w id p refl))))

@@ -16,7 +16,7 @@ use lib.ListN.{length, get_or, length-append}
 use borrow.Author.Tests.{le-leb}
 use Rattle.fields.specs.declared.Place.{Place}
 use Rattle.fields.specs.declared.SizeRule.TheVariants.{AtLeast}
-use Rattle.fields.specs.declared.Field.TheVariants as field
+use Rattle.std.specs.Prelude.{Ok}
 use Rattle.fields.specs.Fields.{bytes_at, fits, field_bytes, nowhere}
 use Rattle.fields.proofs.Laws.Written.{length-field_bytes, id_written, bytes_at_written, length_written, field_at_written}
 use Rattle.inner_header.specs.Writer.{all_fine, run_at, before, run_in, run_from, run, run_bytes}
@@ -40,7 +40,7 @@ length_behind front v = let l = length-field_bytes 3 v in simp length-append (om
 
 run_at_written : (front v rest : List ℕ) → 1 ≤ length v → length v < 2 ^ 31
     → run_at (front ++ field_bytes 3 v ++ rest) (length front)
-    ≡ field.At 3 (record { start = length front + 5; length = length v })
+    ≡ Ok (3, record { start = length front + 5; length = length v })
 unfolding run_at fits
 run_at_written front v rest a b =
     rw (id_written front 3 v rest) (field_at_written front 3 v rest (AtLeast 1) b (le-leb 1 (length v) a))
@@ -59,7 +59,7 @@ run_from_values (v ∷ vs) k front w h =
     let b = length_behind front v in
     let p = run_at_written front v (run_bytes vs) w.0 w.1 in
     let g =
-    run_from_more k s (length front) (field.At 3 (record { start = length front + 5; length = length v })) (omega arith)
+    run_from_more k s (length front) (Ok (3, record { start = length front + 5; length = length v })) (omega arith)
     (omega arith)
     (sym p) in
     let e : run_from (k - 1) s (length front + 5 + length v) ≡ all_fine (places (length front + 5 + length v) vs) =

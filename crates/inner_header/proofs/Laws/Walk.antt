@@ -24,21 +24,21 @@ use borrow.Author.Tests.{eqb-true, eqb-false, lt-leb, ltb-true, ltb-false}
 use Rattle.words.proofs.Laws.Cases.{by_bool}
 use Rattle.refusals.specs.declared.Refusal.TheVariants.{CutShort}
 use Rattle.fields.specs.declared.Place.{Place}
-use Rattle.fields.specs.declared.Field.{Field}
-use Rattle.fields.specs.declared.Field.TheVariants as field
+use Rattle.std.specs.Prelude.{Result, Ok, Err}
+use Rattle.refusals.specs.declared.Refusal.{Refusal}
 use Rattle.fields.specs.Fields.{end_of, field_at, nowhere}
 use Rattle.fields.proofs.Laws.Fields.{Stands, field_at_stands}
 use Rattle.inner_header.specs.declared.Tally.{Tally}
 use Rattle.inner_header.specs.InnerHeader.{Fields, listed, rule_of, repeated, field_of, put, Walked, ended, walk_in, walk}
 use Rattle.inner_header.specs.Tally.{tally_of, put_tally}
 
-pub field_of_stands : (a k : Place) (s : List ℕ) (at id : ℕ) (p : Place) → field_of a k s at ≡ field.At id p
+pub field_of_stands : (a k : Place) (s : List ℕ) (at id : ℕ) (p : Place) → field_of a k s at ≡ Ok (id, p)
     → Stands s at id p
 unfolding field_of
 field_of_stands a k s at id p e =
     field_at_stands (listed (get_or s at 0)) (repeated a k (get_or s at 0)) (rule_of (get_or s at 0)) s at id p e
 
-pub walk_more : (k : ℕ) (f : Fields) (s : List ℕ) (at : ℕ) (e : Field) → 0 < k
+pub walk_more : (k : ℕ) (f : Fields) (s : List ℕ) (at : ℕ) (e : Result (ℕ × Place) Refusal) → 0 < k
     → e ≡ field_of f.algorithm f.key s at
     → walk k f s at ≡ walk_in f e (λ (g : Fields) (n : ℕ). walk (k - 1) g s n)
 unfolding walk
@@ -46,19 +46,19 @@ walk_more zero f s at e h p = absurd (omega arith)
 walk_more (suc k) f s at e h p = rw (p, sub-one)
 
 -- nothing stands behind the end
-field_of_past : (a k : Place) (s : List ℕ) (at : ℕ) → length s ≤ at → field_of a k s at ≡ field.Refused (CutShort (length s))
+field_of_past : (a k : Place) (s : List ℕ) (at : ℕ) → length s ≤ at → field_of a k s at ≡ Err (CutShort (length s))
 unfolding field_of field_at
 field_of_past a k s at h =
     let l : length s < at + 5 = omega arith in
     rw (lt-leb (at + 5) (length s) l)
 
 -- two ways on from a field agree: a walk goes on at a field's end alone
-walk_in-agree : (f : Fields) (e : Field) (g h : Fields → ℕ → Walked)
-    → ((id : ℕ) (p : Place) → e ≡ field.At id p → g (put f id p) (end_of p) ≡ h (put f id p) (end_of p))
+walk_in-agree : (f : Fields) (e : Result (ℕ × Place) Refusal) (g h : Fields → ℕ → Walked)
+    → ((id : ℕ) (p : Place) → e ≡ Ok (id, p) → g (put f id p) (end_of p) ≡ h (put f id p) (end_of p))
     → walk_in f e g ≡ walk_in f e h
 unfolding walk_in
-walk_in-agree f (field.Refused r) g h a = refl
-walk_in-agree f (field.At id p) g h a = ap (λ (w : Walked). cond (eqb id 0) (ended f (end_of p)) w) (a id p refl)
+walk_in-agree f (Err r) g h a = refl
+walk_in-agree f (Ok (id, p)) g h a = ap (λ (w : Walked). cond (eqb id 0) (ended f (end_of p)) w) (a id p refl)
 
 pub walk_enough : (k m : ℕ) (f : Fields) (s : List ℕ) (at : ℕ) → length s ≤ k + at → length s ≤ m + at
     → walk k f s at ≡ walk m f s at
@@ -80,20 +80,20 @@ walk_enough (suc k) (suc m) f s at h l =
 abbrev pub from : Fields → List ℕ → ℕ → Walked
 from f s at = walk (length s) f s at
 
-pub walk_next : (f : Fields) (s : List ℕ) (at id : ℕ) (p : Place) → field_of f.algorithm f.key s at ≡ field.At id p
+pub walk_next : (f : Fields) (s : List ℕ) (at id : ℕ) (p : Place) → field_of f.algorithm f.key s at ≡ Ok (id, p)
     → eqb id 0 ≡ false → from f s at ≡ from (put f id p) s (end_of p)
 unfolding walk_in
 walk_next f s at id p e z =
     let w = field_of_stands f.algorithm f.key s at id p e in
-    let m = walk_more (length s) f s at (field.At id p) (omega arith) (sym e) in
+    let m = walk_more (length s) f s at (Ok (id, p)) (omega arith) (sym e) in
     rw z at m ∙ walk_enough (length s - 1) (length s) (put f id p) s (end_of p) (omega arith) (omega arith)
 
-pub walk_end : (f : Fields) (s : List ℕ) (at : ℕ) (p : Place) → field_of f.algorithm f.key s at ≡ field.At 0 p
+pub walk_end : (f : Fields) (s : List ℕ) (at : ℕ) (p : Place) → field_of f.algorithm f.key s at ≡ Ok (0, p)
     → from f s at ≡ ended f (end_of p)
 unfolding walk_in
 walk_end f s at p e =
     let w = field_of_stands f.algorithm f.key s at 0 p e in
-    walk_more (length s) f s at (field.At 0 p) (omega arith) (sym e)
+    walk_more (length s) f s at (Ok (0, p)) (omega arith) (sym e)
 
 pub get_or-snoc : (l : List Place) (p : Place) (i : ℕ) (d : Place)
     → get_or (l ++ (p ∷ [])) i d ≡ cond (eqb (length l) i) p (get_or l i d)
@@ -115,7 +115,7 @@ put_tally_is i f id p =
     (λ t. rw (t, get_or-snoc f.attachments p i nowhere, length-append f.attachments (p ∷ [])))
     (λ t. rw t)
 
-pub walk_turn : (k i : ℕ) (f : Fields) (t : Tally) (s : List ℕ) (at : ℕ) (e : Field) → 0 < k → t ≡ tally_of i f
+pub walk_turn : (k i : ℕ) (f : Fields) (t : Tally) (s : List ℕ) (at : ℕ) (e : Result (ℕ × Place) Refusal) → 0 < k → t ≡ tally_of i f
     → e ≡ field_of t.algorithm t.key s at
     → walk k f s at ≡ walk_in f e (λ (g : Fields) (n : ℕ). walk (k - 1) g s n)
 walk_turn k i f t s at e h q p =

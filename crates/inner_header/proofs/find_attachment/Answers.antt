@@ -1,5 +1,6 @@
 -- `inner_header::find_attachment` meets its contract. Assumes nothing.
 use mathlib.Core.Path.{sym, ◌∙◌}
+use Rattle.std.proofs.lemmas.Result.{err_from_is_err_and}
 use Rattle.inner_header.specs.InnerHeader.{attachment, opened}
 use Rattle.inner_header.proofs.Laws.Opened.{attachment_of-refused, attachment_of-shown, attachment_of_past, asked_within}
 use Rattle.words.proofs.Laws.Said.{said_too}
@@ -7,45 +8,47 @@ use Rattle.inner_header.specs.Answers.{said_attachment}
 use borrow.Author.Rules.{rules}
 use Rattle.inner_header.proofs.find_attachment.Goals as goal
 
-pub returns-in-Refused : goal.returns-in-Refused
+pub returns-in_err-t : goal.returns-in_err-t
 unfolding attachment
-returns-in-Refused c =
+returns-in_err-t c =
     let a = c.args in
     let s = a.payload.now in
-    said_too said_attachment (attachment_of-refused a.index s (opened s) c.in-Refused.r (sym c.in-Refused.is ∙ c.judge.ensures))
+    let r = err_from_is_err_and c.from_residual.result c.from_residual.ensures.1 in
+    said_too said_attachment
+    (rw (r.1, r.2) (attachment_of-refused a.index s (opened s) _ (sym c.in_err-t.was ∙ c.judge.ensures)))
 
 pub overflow_add-start : goal.overflow_add-start
 overflow_add-start c =
     let a = c.args in
     let h =
-    asked_within a.index a.payload.now c.in-Ended.t c.in-Ended.end (sym c.in-Ended.is ∙ c.judge.ensures)
-    c.if-index-t.true in
+    asked_within a.index a.payload.now c.in_ok-t.t c.in_ok-t.end (sym c.in_ok-t.was ∙ c.judge.ensures)
+    c.if-t-index.false in
     search rules
 
 pub overflow_sub-length : goal.overflow_sub-length
 overflow_sub-length c =
     let a = c.args in
     let h =
-    asked_within a.index a.payload.now c.in-Ended.t c.in-Ended.end (sym c.in-Ended.is ∙ c.judge.ensures)
-    c.if-index-t.true in
+    asked_within a.index a.payload.now c.in_ok-t.t c.in_ok-t.end (sym c.in_ok-t.was ∙ c.judge.ensures)
+    c.if-t-index.false in
     search rules
 
-pub returns-then-index-t : goal.returns-then-index-t
+pub returns-then-t-index : goal.returns-then-t-index
 unfolding attachment
-returns-then-index-t c =
-    let a = c.args in
-    let s = a.payload.now in
-    said_too said_attachment
-    (attachment_of-shown a.index s (opened s) c.in-Ended.t c.in-Ended.end c.byte_at-flags.result
-    (sym c.in-Ended.is ∙ c.judge.ensures)
-    c.if-index-t.true
-    c.byte_at-flags.ensures)
-
-pub returns-in-Ended : goal.returns-in-Ended
-unfolding attachment
-returns-in-Ended c =
+returns-then-t-index c =
     let a = c.args in
     let s = a.payload.now in
     said_too said_attachment
     (rw c.end_field.ensures
-    (attachment_of_past a.index s (opened s) c.in-Ended.t c.in-Ended.end (sym c.in-Ended.is ∙ c.judge.ensures) c.if-index-t.false))
+    (attachment_of_past a.index s (opened s) c.in_ok-t.t c.in_ok-t.end (sym c.in_ok-t.was ∙ c.judge.ensures) c.if-t-index.true))
+
+pub returns : goal.returns
+unfolding attachment
+returns c =
+    let a = c.args in
+    let s = a.payload.now in
+    said_too said_attachment
+    (attachment_of-shown a.index s (opened s) c.in_ok-t.t c.in_ok-t.end c.byte_at-flags.result
+    (sym c.in_ok-t.was ∙ c.judge.ensures)
+    c.if-t-index.false
+    c.byte_at-flags.ensures)

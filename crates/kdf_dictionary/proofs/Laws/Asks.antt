@@ -20,8 +20,8 @@ use Rattle.refusals.specs.Limits.{rounds_limit, rounds_least, argon2_fits}
 use Rattle.fields.specs.Fields.{bytes_at, end_of, given}
 use Rattle.fields.specs.declared.Place.{Place}
 use Rattle.dictionary.specs.Dictionary.{verdict}
-use Rattle.dictionary.specs.declared.Verdict.{Verdict}
-use Rattle.dictionary.specs.declared.Verdict.TheVariants.{Sound, Broken, Repeated}
+use Rattle.dictionary.specs.declared.Fault.TheVariants as fault
+use Rattle.dictionary.specs.declared.Fault.{Fault}
 use Rattle.kdf_dictionary.specs.Kdf.{uuid_name, salt_name, rounds_name}
 use Rattle.kdf_dictionary.specs.declared.AesKdf.{AesKdf}
 use Rattle.kdf_dictionary.specs.declared.Argon2.{Argon2}
@@ -32,8 +32,8 @@ use Rattle.kdf_dictionary.specs.declared.Variant.TheVariants as variant
 use Rattle.kdf_dictionary.specs.declared.Listed.{Listed}
 use Rattle.kdf_dictionary.specs.declared.Listed.TheVariants as listed
 use Rattle.kdf_dictionary.specs.declared.Items.{Items}
-use Rattle.kdf_dictionary.specs.declared.Reading.{Reading}
-use Rattle.kdf_dictionary.specs.declared.Reading.TheVariants.{Asks, Refused}
+use Rattle.std.specs.Prelude.{Result, Ok, Err}
+use Rattle.refusals.specs.declared.Refusal.{Refusal}
 use Rattle.kdf_dictionary.specs.KdfDictionary.{
   item_of,
   aes_kdf_in,
@@ -73,9 +73,9 @@ IsAsked p (kdf.Argon2d k) = IsArgon2 p k
 IsAsked p (kdf.Argon2id k) = IsArgon2 p k
 
 -- nothing is said of a refusal
-abbrev Asked : Place → Reading → Type 0
-Asked p (Asks k) = IsAsked p k
-Asked p (Refused r) = 0 ≤ 0
+abbrev Asked : Place → Result Kdf Refusal → Type 0
+Asked p (Ok k) = IsAsked p k
+Asked p (Err r) = 0 ≤ 0
 
 argon2_kdf_asked : (p : Place) (v : Variant) (k : Argon2) → IsArgon2 p k → IsAsked p (argon2_kdf v k)
 argon2_kdf_asked p variant.D k h = h
@@ -133,17 +133,17 @@ module _ (d : List ℕ) (p : Place) (fits : length d ≤ p.length) where
   uuid_in_asked q =
       by_bool (eqb q.length 16) (λ t. rw t (listed_in_asked (listed_as (bytes_at d q)))) (λ t. rw t (omega arith))
 
-  kdf_in_asked : (o : Verdict) → Asked p (kdf_in d p o)
+  kdf_in_asked : (o : Result Unit Fault) → Asked p (kdf_in d p o)
   unfolding kdf_in uuid_of
-  kdf_in_asked (Broken at) = omega arith
-  kdf_in_asked (Repeated at) = omega arith
-  kdf_in_asked Sound = uuid_in_asked (item_of d uuid_name 0x42)
+  kdf_in_asked (Err (fault.Broken at)) = omega arith
+  kdf_in_asked (Err (fault.Repeated at)) = omega arith
+  kdf_in_asked (Ok tt) = uuid_in_asked (item_of d uuid_name 0x42)
 
 kdf_of_asked : (s : List ℕ) (p : Place) → Asked p (kdf_of s p)
 unfolding kdf_of
 kdf_of_asked s p = kdf_in_asked (bytes_at s p) p (simp length-take (omega arith)) (verdict (bytes_at s p))
 
-pub kdf_of_asks : (s : List ℕ) (p : Place) (k : Kdf) → kdf_of s p ≡ Asks k → IsAsked p k
+pub kdf_of_asks : (s : List ℕ) (p : Place) (k : Kdf) → kdf_of s p ≡ Ok k → IsAsked p k
 kdf_of_asks s p k e = rw e at (kdf_of_asked s p)
 
 -- the dictionary's bytes and place alone decide

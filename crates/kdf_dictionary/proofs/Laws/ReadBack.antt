@@ -23,13 +23,12 @@ use Rattle.refusals.proofs.Laws.Limits.{rounds-word, rounds_some, argon2_fits_bo
 use Rattle.fields.specs.Fields.{bytes_at}
 use Rattle.fields.specs.declared.Place.{Place}
 use Rattle.dictionary.specs.Dictionary.{size_fits_type, verdict, item_bytes}
-use Rattle.dictionary.specs.declared.Found.TheVariants as found
 use Rattle.kdf_dictionary.specs.declared.Items.{Items}
 use Rattle.kdf_dictionary.specs.declared.Variant.{Variant}
 use Rattle.kdf_dictionary.specs.declared.Variant.TheVariants as variant
 use Rattle.kdf_dictionary.specs.declared.Listed.TheVariants as listed
 use Rattle.kdf_dictionary.specs.declared.Kdf.TheVariants as kdf
-use Rattle.kdf_dictionary.specs.declared.Reading.TheVariants as read
+use Rattle.std.specs.Prelude.{Ok, Err, Some, None}
 use Rattle.kdf_dictionary.specs.declared.writer.Figures.{Figures}
 use Rattle.kdf_dictionary.specs.declared.writer.Figures.TheVariants as figures
 use Rattle.kdf_dictionary.specs.Kdf.{aes_kdf_uuid, argon2d_uuid, argon2id_uuid, uuid_name, salt_name, rounds_name, version_name, passes_name, memory_name, lanes_name, secret_name, associated_name, aes_kdf_bytes, argon2_bytes, kdf_bytes, IsWritable, written_kdf}
@@ -59,14 +58,14 @@ whole is = 0x00 ∷ 0x01 ∷ joined is
 
 -- what is found by name and type
 item_found : (is : List Part) (name : List ℕ) (kind start n : ℕ) → AllSound is
-    → found_from 2 is name ≡ found.At kind start n
+    → found_from 2 is name ≡ Ok (Some (record { kind = kind; start = start; length = n }))
     → item_of (whole is) name kind ≡ record { start = start; length = n }
 unfolding typed_in
 item_found is name kind start n h e =
     ap (typed_in kind) (search_joined is name h ∙ e) ∙ rw (eq-eqb kind kind refl)
 
 -- what is not there
-item_none : (is : List Part) (name : List ℕ) → AllSound is → found_from 2 is name ≡ found.Absent
+item_none : (is : List Part) (name : List ℕ) → AllSound is → found_from 2 is name ≡ Ok None
     → has_item (whole is) name ≡ false
 unfolding is_found
 item_none is name h e = ap is_found (search_joined is name h ∙ e)
@@ -111,7 +110,7 @@ module _ (seed : List ℕ) (rounds : ℕ) (long : length seed ≡ 32) (within : 
   unfolding found_from same
   aes_uuid = item_found aes_kdf_parts uuid_name 0x42 16 16 aes_sound refl
 
-  rounds_found : searched (whole aes_kdf_parts) rounds_name ≡ found.At 0x05 42 8
+  rounds_found : searched (whole aes_kdf_parts) rounds_name ≡ Ok (Some (record { kind = 0x05; start = 42; length = 8 }))
   unfolding found_from same le_bytes
   rounds_found = search_joined aes_kdf_parts rounds_name aes_sound
 
@@ -141,8 +140,8 @@ module _ (seed : List ℕ) (rounds : ℕ) (long : length seed ≡ 32) (within : 
   kdf_of_aes_kdf_parts : (p : Place)
       → kdf_in (whole aes_kdf_parts) p (verdict (whole aes_kdf_parts))
       ≡ cond (leb rounds_least rounds)
-      (read.Asks (kdf.AesKdf (record { seed = record { start = p.start + 60; length = length seed }; rounds = rounds })))
-      (read.Refused (TooFewRounds (p.start + 32)))
+      (Ok (kdf.AesKdf (record { seed = record { start = p.start + 60; length = length seed }; rounds = rounds })))
+      (Err (TooFewRounds (p.start + 32)))
   unfolding kdf_in uuid_of uuid_in listed_as listed_in aes_kdf_of aes_kdf_in fault_in
   kdf_of_aes_kdf_parts p =
       ap (kdf_in (whole aes_kdf_parts) p) (verdict-joined aes_kdf_parts aes_sound aes_fresh)
@@ -244,7 +243,7 @@ module _ (uuid salt : List ℕ) (passes memory lanes : ℕ) (uuid_long : length 
   found_version =
       let e : 82 + (9 + 1 + length salt) + 5 + 1 + 4 ≡ 102 + length salt = omega arith in
       item_found argon2_parts version_name 0x04 (102 + length salt) 4 argon2_sound
-      (rw uuid_long (ap (λ (a : ℕ). found.At 0x04 a 4) e))
+      (rw uuid_long (ap (λ (a : ℕ). Ok (Some (record { kind = 0x04; start = a; length = 4 }))) e))
 
   none_secret : has_item (whole argon2_parts) secret_name ≡ false
   unfolding found_from same
@@ -312,8 +311,7 @@ module _ (uuid salt : List ℕ) (passes memory lanes : ℕ) (uuid_long : length 
 
   figures_are : (p : Place) (v : Variant)
       → argon2_figures (whole argon2_parts) p v places
-      ≡ read.Asks
-      (argon2_kdf v
+      ≡ Ok (argon2_kdf v
       (record {
         salt = record { start = p.start + 92; length = length salt };
         passes = passes;
@@ -325,8 +323,7 @@ module _ (uuid salt : List ℕ) (passes memory lanes : ℕ) (uuid_long : length 
 
   kdf_of_argon2_parts : (p : Place) (v : Variant) → listed_as uuid ≡ listed.Argon2 v
       → kdf_in (whole argon2_parts) p (verdict (whole argon2_parts))
-      ≡ read.Asks
-      (argon2_kdf v
+      ≡ Ok (argon2_kdf v
       (record {
         salt = record { start = p.start + 92; length = length salt };
         passes = passes;
@@ -353,7 +350,7 @@ at_place s d p e = ap (λ (x : List ℕ). kdf_in x p (verdict x)) e
 
 pub kdf_of-kdf_bytes : (f : Figures) (salt s : List ℕ) (p : Place) → IsWritable f (length salt)
     → bytes_at s p ≡ kdf_bytes f salt
-    → kdf_of s p ≡ read.Asks (written_kdf f p (length salt))
+    → kdf_of s p ≡ Ok (written_kdf f p (length salt))
 unfolding IsWritable kdf_bytes
 kdf_of-kdf_bytes (figures.AesKdf rounds) salt s p h e =
     at_place s _ p (e ∙ aes_kdf_bytes_is salt rounds h.0 h.1) ∙ kdf_of_aes_kdf_parts salt rounds h.0 h.1 p
@@ -368,7 +365,7 @@ kdf_of-kdf_bytes (figures.Argon2id passes memory lanes) salt s p h e =
 -- a dictionary of AES-KDF with fewer rounds than the least: the item `R` begins 32 bytes behind its front
 pub kdf_of_few : (rounds : ℕ) (salt s : List ℕ) (p : Place) → length salt ≡ 32 → rounds < rounds_least
     → bytes_at s p ≡ kdf_bytes (figures.AesKdf rounds) salt
-    → kdf_of s p ≡ read.Refused (TooFewRounds (p.start + 32))
+    → kdf_of s p ≡ Err (TooFewRounds (p.start + 32))
 unfolding kdf_bytes
 kdf_of_few rounds salt s p long less e =
     let within : rounds ≤ rounds_limit = omega (arith, rounds_some) in

@@ -20,16 +20,14 @@ use lib.Seq.{get_or-append_seam, drop-append_seam, take-append_seam}
 use borrow.Author.Tests.{lt-leb, le-ltb, lt-ltb, ne_eqb}
 use Rattle.words.specs.Endian.{le, le_bytes}
 use Rattle.words.specs.Size.{int32}
-use Rattle.words.specs.declared.le.Size.TheVariants.{Of}
+use Rattle.std.specs.Prelude.{Some, None, Ok, Option, Result}
 use Rattle.words.proofs.Laws.Endian.{length-le_bytes, le-le_bytes, le-drop, le-take}
 use Rattle.slices.specs.Same.{same}
 use Rattle.fields.specs.Fields.{field_bytes}
 use Rattle.fields.proofs.Laws.Written.{id_written, size_written, bytes_at_written, length-field_bytes, le_inside}
-use Rattle.dictionary.specs.declared.Verdict.TheVariants.{Sound}
 use Rattle.dictionary.specs.declared.Item.{Item}
-use Rattle.dictionary.specs.declared.Entry.TheVariants as entry
-use Rattle.dictionary.specs.declared.Found.{Found}
-use Rattle.dictionary.specs.declared.Found.TheVariants as found
+use Rattle.dictionary.specs.declared.Value.{Value}
+use Rattle.refusals.specs.declared.Refusal.{Refusal}
 use Rattle.dictionary.specs.Dictionary.{size_fits_type, value_at, name_at, entry_at, name_of, next, named_in, named, walk_in, walk, verdict, search_in, search_from, item_bytes}
 use Rattle.dictionary.proofs.Laws.Walk.{named_past, named_more, walk_more, search_from_more}
 use Rattle.kdf_dictionary.proofs.Laws.Layout.{length-item_bytes}
@@ -99,7 +97,7 @@ module _ (before : List ℕ) (i : Part) (after : List ℕ) (h : IsSound i) where
       ap (λ (s : List ℕ). get_or s (length before) 0) as_name
       ∙ id_written before i.kind i.name (le_bytes 4 (length i.value) ++ (i.value ++ after))
 
-  name_size : int32 (le 4 whole (length before + 1)) ≡ Of (length i.name)
+  name_size : int32 (le 4 whole (length before + 1)) ≡ Some (length i.name)
   name_size =
       ap (λ (s : List ℕ). int32 (le 4 s (length before + 1))) as_name
       ∙ size_written before i.kind i.name (le_bytes 4 (length i.value) ++ (i.value ++ after)) h.name_small
@@ -119,7 +117,7 @@ module _ (before : List ℕ) (i : Part) (after : List ℕ) (h : IsSound i) where
       (drop-append_seam (before ++ field_bytes i.kind i.name ++ size) (i.value ++ after))
       ∙ take-append_seam i.value after
 
-  value_size : int32 (le 4 whole (length before + 5 + length i.name)) ≡ Of (length i.value)
+  value_size : int32 (le 4 whole (length before + 5 + length i.name)) ≡ Some (length i.value)
   unfolding int32
   value_size =
       let m : length i.value % 256 ^ 4 ≡ length i.value = omega (arith, h.value_small) in
@@ -135,7 +133,7 @@ module _ (before : List ℕ) (i : Part) (after : List ℕ) (h : IsSound i) where
   length_whole : length whole ≡ length before + size_of i + length after
   length_whole = rw (length-append, length-append, length-item_bytes) (omega arith)
 
-  pub entry_at_item : entry_at whole (length before) ≡ entry.Item (item_here (length before) i)
+  pub entry_at_item : entry_at whole (length before) ≡ Ok (Some (item_here (length before) i))
   unfolding entry_at name_at value_at
   entry_at_item =
       let l = length_whole in
@@ -156,7 +154,7 @@ module _ (before : List ℕ) (i : Part) (after : List ℕ) (h : IsSound i) where
         h.fits,
       )
 
-pub entry_at_end : (before : List ℕ) → entry_at (before ++ (0x00 ∷ [])) (length before) ≡ entry.End
+pub entry_at_end : (before : List ℕ) → entry_at (before ++ (0x00 ∷ [])) (length before) ≡ Ok None
 unfolding entry_at
 entry_at_end before =
     let l : length (before ++ (0x00 ∷ [])) ≡ length before + 1 = length-append before (0x00 ∷ []) in
@@ -169,18 +167,18 @@ next_item : (before : List ℕ) (i : Part) → next (item_here (length before) i
 next_item before i = rw (length-append, length-item_bytes) (omega arith)
 
 -- what a search among items from a place on finds
-unfoldable pub found_from : ℕ → List Part → List ℕ → Found
-found_from at [] name = found.Absent
+unfoldable pub found_from : ℕ → List Part → List ℕ → Result (Option Value) Refusal
+found_from at [] name = Ok None
 found_from at (i ∷ is) name =
     cond (same i.name name)
-    (found.At i.kind (at + 5 + length i.name + 4) (length i.value))
+    (Ok (Some (record { kind = i.kind; start = at + 5 + length i.name + 4; length = length i.value })))
     (found_from (at + size_of i) is name)
 
 pub search_from-joined : (is : List Part) (before : List ℕ) (k : ℕ) (name : List ℕ) → AllSound is → length is < k
     → search_from k (before ++ joined is) (length before) name ≡ found_from (length before) is name
 unfolding AllSound joined found_from search_in
 search_from-joined [] before k name h l =
-    search_from_more k (before ++ (0x00 ∷ [])) (length before) name entry.End (omega arith) (sym (entry_at_end before))
+    search_from_more k (before ++ (0x00 ∷ [])) (length before) name (Ok None) (omega arith) (sym (entry_at_end before))
 search_from-joined (i ∷ is) before k name h l =
     let s = before ++ (bytes_of i ++ joined is) in
     let m : length (before ++ bytes_of i) ≡ length before + size_of i = rw (length-append, length-item_bytes) (omega arith) in
@@ -189,10 +187,10 @@ search_from-joined (i ∷ is) before k name h l =
     (next_item before i)
     ∙ search_from-joined is (before ++ bytes_of i) (k - 1) name h.1 (omega arith)
     ∙ ap (λ (n : ℕ). found_from n is name) m in
-    search_from_more k s (length before) name (entry.Item (item_here (length before) i)) (omega arith)
+    search_from_more k s (length before) name (Ok (Some (item_here (length before) i))) (omega arith)
     (sym (entry_at_item before i (joined is) h.0))
     ∙ ap₂
-    (λ (x : List ℕ) (f : Found). cond (same x name) (found.At i.kind (length before + 5 + length i.name + 4) (length i.value)) f)
+    (λ (x : List ℕ) (f : Result (Option Value) Refusal). cond (same x name) (Ok (Some (record { kind = i.kind; start = length before + 5 + length i.name + 4; length = length i.value }))) f)
     (name_here before i (joined is) h.0) more
 
 -- items one behind the other
@@ -231,7 +229,7 @@ named_plain (i ∷ is) before rest k stop name h l e =
     (next_item before i)
     ∙ named_plain is (before ++ bytes_of i) rest (k - 1) stop name h.1 (omega arith) (omega arith) in
     ap (λ (x : List ℕ). named k x (length before) stop name) w
-    ∙ named_more k s (length before) stop name (entry.Item (item_here (length before) i)) (omega arith) (omega arith)
+    ∙ named_more k s (length before) stop name (Ok (Some (item_here (length before) i))) (omega arith) (omega arith)
     (sym (entry_at_item before i (plain is ++ rest) h.0))
     ∙ ap₂ (λ (x : List ℕ) (b : Bool). cond (same x name) true b) (name_here before i (plain is ++ rest) h.0) more
 
@@ -256,10 +254,10 @@ abbrev split : List Part → List Part → List ℕ
 split ds is = (0x00 ∷ 0x01 ∷ plain ds) ++ joined is
 
 walk-joined : (is ds : List Part) (k : ℕ) → AllSound ds → AllSound is → Fresh ds is → length is < k
-    → walk k (split ds is) (length (0x00 ∷ 0x01 ∷ plain ds)) ≡ Sound
+    → walk k (split ds is) (length (0x00 ∷ 0x01 ∷ plain ds)) ≡ (Ok tt)
 unfolding AllSound joined Fresh walk_in
 walk-joined [] ds k hd h f l =
-    walk_more k (split ds []) (length (0x00 ∷ 0x01 ∷ plain ds)) entry.End (omega arith)
+    walk_more k (split ds []) (length (0x00 ∷ 0x01 ∷ plain ds)) (Ok None) (omega arith)
     (sym (entry_at_end (0x00 ∷ 0x01 ∷ plain ds)))
 walk-joined (i ∷ is) ds k hd h f l =
     let before : List ℕ = 0x00 ∷ 0x01 ∷ plain ds in
@@ -275,10 +273,10 @@ walk-joined (i ∷ is) ds k hd h f l =
     let w : s ≡ split (ds ++ (i ∷ [])) is =
     sym (append_assoc before (bytes_of i) (joined is))
     ∙ ap (λ (x : List ℕ). (0x00 ∷ 0x01 ∷ x) ++ joined is) (sym (plain_append ds i)) in
-    let more : walk (k - 1) s (next (item_here a i)) ≡ Sound =
+    let more : walk (k - 1) s (next (item_here a i)) ≡ (Ok tt) =
     ap₂ (λ (x : List ℕ) (b : ℕ). walk (k - 1) x b) w m
     ∙ walk-joined is (ds ++ (i ∷ [])) (k - 1) (sound-append ds i hd h.0) h.1 f.1 (omega arith) in
-    walk_more k s a (entry.Item (item_here a i)) (omega arith) (sym (entry_at_item before i (joined is) h.0))
+    walk_more k s a (Ok (Some (item_here a i))) (omega arith) (sym (entry_at_item before i (joined is) h.0))
     ∙ rw fresh more
 
 length-joined : (is : List Part) → length is < length (joined is)
@@ -288,7 +286,7 @@ length-joined (i ∷ is) =
     let r = length-joined is in
     rw (length-append, length-item_bytes) (omega arith)
 
-pub verdict-joined : (is : List Part) → AllSound is → Fresh [] is → verdict (0x00 ∷ 0x01 ∷ joined is) ≡ Sound
+pub verdict-joined : (is : List Part) → AllSound is → Fresh [] is → verdict (0x00 ∷ 0x01 ∷ joined is) ≡ (Ok tt)
 unfolding verdict plain AllSound
 verdict-joined is h f =
     let l = length-joined is in

@@ -12,7 +12,7 @@ use Rattle.refusals.specs.Limits.{rounds_limit, rounds_least}
 use Rattle.fields.specs.declared.Place.{Place}
 use Rattle.kdf_dictionary.specs.Kdf.{salt_name, rounds_name}
 use Rattle.kdf_dictionary.specs.declared.Kdf.TheVariants as kdf
-use Rattle.kdf_dictionary.specs.declared.Reading.TheVariants.{Asks, Refused}
+use Rattle.std.specs.Prelude.{Ok, Err}
 use Rattle.kdf_dictionary.proofs.Laws.Items.{item_within}
 use Rattle.kdf_dictionary.specs.KdfDictionary.{item_of, place_in, fault_at, aes_kdf_in, aes_kdf_of}
 use borrow.Author.Rules.{rules}
@@ -46,9 +46,9 @@ decided : (d : List ℕ) (p q r : Place) (n : ℕ) → q ≡ item_of d salt_name
     → n ≡ le 8 d r.start
     → aes_kdf_of d p
     ≡ cond (leb n rounds_limit)
-    (cond (leb rounds_least n) (Asks (kdf.AesKdf (record { seed = place_in p q; rounds = n })))
-    (Refused (TooFewRounds (fault_at d p rounds_name))))
-    (Refused (TooManyRounds (fault_at d p rounds_name)))
+    (cond (leb rounds_least n) (Ok (kdf.AesKdf (record { seed = place_in p q; rounds = n })))
+    (Err (TooFewRounds (fault_at d p rounds_name))))
+    (Err (TooManyRounds (fault_at d p rounds_name)))
 unfolding aes_kdf_of aes_kdf_in
 decided d p q r n s o long there e = rw (← s, ← o, eq-eqb _ 32 long, ne_eqb _ 0 there, ← e)
 

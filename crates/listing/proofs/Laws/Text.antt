@@ -25,8 +25,7 @@ use Rattle.refusals.specs.declared.Written.TheVariants.{Wrote, Refused}
 use Rattle.refusals.specs.Limits.{program_limit}
 use Rattle.refusals.proofs.Laws.Limits.{file_size}
 use Rattle.outer_header.specs.declared.Header.{Header}
-use Rattle.outer_header.specs.declared.Reading.{Reading}
-use Rattle.outer_header.specs.declared.Reading.TheVariants as read
+use Rattle.std.specs.Prelude.{Result, Ok, Err}
 use Rattle.outer_header.specs.Kdbx4Header.{header}
 use Rattle.outer_header.specs.Frames.{frames, fields_end}
 use Rattle.outer_header.proofs.Laws.Accepted.{header_stands}
@@ -44,7 +43,7 @@ pub record Listed (s : List ℕ) (h : Header) : Type 0 where
   pub length_le : h.length ≤ length s
   pub small : h.length < 2 ^ 31
 
-pub header-listed : (s : List ℕ) (h : Header) → header s ≡ read.Header h → Listed s h
+pub header-listed : (s : List ℕ) (h : Header) → header s ≡ Ok h → Listed s h
 header-listed s h e =
     let x = header_stands s h e in
     let f = header-fields_end s h e in
@@ -112,12 +111,12 @@ unfolding after
 after_refused w d h = rw (lt-leb _ _ h)
 
 -- the three texts
-pub text-refused : (s : List ℕ) (r : Refusal) → leb (length s) program_limit ≡ true → header s ≡ read.Refused r
+pub text-refused : (s : List ℕ) (r : Refusal) → leb (length s) program_limit ≡ true → header s ≡ Err r
     → text s ≡ refusal_line r
 unfolding text text_of
 text-refused s r t e = rw (t, e)
 
-pub text-listed : (s : List ℕ) (h : Header) → leb (length s) program_limit ≡ true → header s ≡ read.Header h
+pub text-listed : (s : List ℕ) (h : Header) → leb (length s) program_limit ≡ true → header s ≡ Ok h
     → text s ≡ hex_lines (frames s)
 unfolding text text_of
 text-listed s h t e = rw (t, e)
@@ -126,11 +125,11 @@ pub text_long : (s : List ℕ) → leb (length s) program_limit ≡ false → te
 unfolding text
 text_long s t = rw t
 
-length-text_of : (s : List ℕ) (r : Reading) → header s ≡ r → length s ≤ program_limit
+length-text_of : (s : List ℕ) (r : Result Header Refusal) → header s ≡ r → length s ≤ program_limit
     → length (text_of s r) ≤ 3 * 65_536
 unfolding text_of program_limit
-length-text_of s (read.Header h) e l = let x = header-listed s h e in omega (arith, x.length_is, x.few, x.length_le)
-length-text_of s (read.Refused r) e l = omega (arith, length_refusal r)
+length-text_of s (Ok h) e l = let x = header-listed s h e in omega (arith, x.length_is, x.few, x.length_le)
+length-text_of s (Err r) e l = omega (arith, length_refusal r)
 
 -- room for any text
 pub length-text : (s : List ℕ) → length (text s) ≤ 3 * 65_536

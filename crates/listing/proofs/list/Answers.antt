@@ -3,20 +3,20 @@ use mathlib.Core.Path.{sym, ◌∙◌}
 use Rattle.listing.proofs.Laws.Text.{text-refused, text-listed, text_long}
 use Rattle.listing.proofs.list.Goals as goal
 
-pub returns-in-Refused : goal.returns-in-Refused
-returns-in-Refused c =
+pub returns-in-Err : goal.returns-in-Err
+returns-in-Err c =
     let s = c.args.s.now in
     rw (text-refused s _ (sym c.program_input_fits.ensures ∙ c.if-program_input_fits.true)
-    (sym c.read.ensures.value ∙ c.in-Refused.is)) c.list_refusal.ensures
+    (sym c.read.ensures.value ∙ c.in-Err.is)) c.list_refusal.ensures
 
 pub list_frames-requires : goal.list_frames-requires
-list_frames-requires c = sym c.read.ensures.value ∙ c.in-Header.is
+list_frames-requires c = sym c.read.ensures.value ∙ c.in-Ok.is
 
-pub returns-in-Header : goal.returns-in-Header
-returns-in-Header c =
+pub returns-in-Ok : goal.returns-in-Ok
+returns-in-Ok c =
     let s = c.args.s.now in
     rw (text-listed s _ (sym c.program_input_fits.ensures ∙ c.if-program_input_fits.true)
-    (sym c.read.ensures.value ∙ c.in-Header.is)) c.list_frames.ensures
+    (sym c.read.ensures.value ∙ c.in-Ok.is)) c.list_frames.ensures
 
 pub returns : goal.returns
 returns c =

@@ -24,7 +24,7 @@ use Rattle.block_stream.specs.declared.Block.TheVariants as block
 use Rattle.opening.specs.declared.Keys.{Keys}
 use Rattle.opening.specs.Decryption.{refused, payload}
 use Rattle.opening.specs.Whole.{close_of, walk_in, walk, whole}
-use Rattle.open_whole.specs.declared.survey.Surveyed.TheVariants.{Text, Refused}
+use Rattle.std.specs.Prelude.{Ok, Err}
 use Rattle.open_whole.specs.Ciphertext.{text_of, text}
 use Rattle.open_whole.specs.Checks.{survey_close, survey_in, survey, settled}
 use Rattle.open_whole.proofs.Laws.Sizes.{Standing, judge_data, judge_closing, text_of_more, text_of_end}
@@ -44,16 +44,16 @@ module _ (l : ℕ) (base f : List ℕ) (i p c : ℕ) (h : i ≤ l) where
       let b : p + (36 + n) ≡ p + 36 + n = omega arith in
       rw (turn, e, a, b, add-one)
 
-  pub survey-refused : (r : Refusal) → judge base f i p ≡ block.Refused r → Refused r ≡ survey (suc l - i) base f i p c
+  pub survey-refused : (r : Refusal) → judge base f i p ≡ block.Refused r → Err r ≡ survey (suc l - i) base f i p c
   unfolding survey_in
   survey-refused r e = rw (turn, e)
 
   pub survey_trailing : judge base f i p ≡ block.Closing → p + 36 < length f
-      → Refused TrailingBytes ≡ survey (suc l - i) base f i p c
+      → Err TrailingBytes ≡ survey (suc l - i) base f i p c
   unfolding survey_in survey_close
   survey_trailing e g = rw (turn, e, lt-ltb _ _ g)
 
-  pub survey-text : judge base f i p ≡ block.Closing → length f ≤ p + 36 → Text c ≡ survey (suc l - i) base f i p c
+  pub survey-text : judge base f i p ≡ block.Closing → length f ≤ p + 36 → Ok c ≡ survey (suc l - i) base f i p c
   unfolding survey_in survey_close
   survey-text e g = rw (turn, e, le-ltb _ _ g)
 
@@ -66,8 +66,8 @@ length_data f p n s =
 -- the count, by what the block is
 module _ (base f : List ℕ) where
   length_step : (m i p c d : ℕ) (b : Block) → judge base f i p ≡ b
-      → ((n : ℕ) → survey m base f (suc i) (p + 36 + n) (c + n) ≡ Text d → d ≡ c + n + length (text_of m f (p + 36 + n)))
-      → survey_in b (λ (n : ℕ). survey m base f (suc i) (p + 36 + n) (c + n)) (survey_close f p c) ≡ Text d
+      → ((n : ℕ) → survey m base f (suc i) (p + 36 + n) (c + n) ≡ Ok d → d ≡ c + n + length (text_of m f (p + 36 + n)))
+      → survey_in b (λ (n : ℕ). survey m base f (suc i) (p + 36 + n) (c + n)) (survey_close f p c) ≡ Ok d
       → d ≡ c + length (text_of (suc m) f p)
   unfolding survey_in survey_close
   length_step m i p c d (block.Refused r) e more h = let z : ◌≡◌ {A = ℕ} 0 1 = cc in absurd (omega arith)
@@ -83,13 +83,13 @@ module _ (base f : List ℕ) where
       (λ t. let a = rw t at h in let z : ◌≡◌ {A = ℕ} 0 1 = cc in absurd (omega arith))
       (λ t. let a = rw t at h in cc))
 
-  length-survey : (m i p c d : ℕ) → survey m base f i p c ≡ Text d → d ≡ c + length (text_of m f p)
+  length-survey : (m i p c d : ℕ) → survey m base f i p c ≡ Ok d → d ≡ c + length (text_of m f p)
   unfolding survey
   length-survey zero i p c d h = let z : ◌≡◌ {A = ℕ} 0 1 = cc in absurd (omega arith)
   length-survey (suc m) i p c d h =
       length_step m i p c d (judge base f i p) refl (λ n. length-survey m (suc i) (p + 36 + n) (c + n) d) h
 
-  pub length-text : (p c : ℕ) → survey (suc (length f)) base f 0 p 0 ≡ Text c → c ≡ length (text f p)
+  pub length-text : (p c : ℕ) → survey (suc (length f)) base f 0 p 0 ≡ Ok c → c ≡ length (text f p)
   unfolding text
   length-text p c e = length-survey (suc (length f)) 0 p 0 c e ∙ zero-add (length (text f p))
 
@@ -131,11 +131,11 @@ module _ (k : Keys) (f : List ℕ) where
   whole_survey p = walk-survey (suc (length f)) 0 p []
 
   -- the whole opener, where the pass refuses, and where it does not
-  pub whole_refused : (p : ℕ) (r : Refusal) → survey (suc (length f)) k.base f 0 p 0 ≡ Refused r
+  pub whole_refused : (p : ℕ) (r : Refusal) → survey (suc (length f)) k.base f 0 p 0 ≡ Err r
       → whole k f p ≡ refused r
   unfolding settled
   whole_refused p r e = whole_survey p ∙ rw e
 
-  pub whole_text : (p c : ℕ) → survey (suc (length f)) k.base f 0 p 0 ≡ Text c → whole k f p ≡ payload k (text f p)
+  pub whole_text : (p c : ℕ) → survey (suc (length f)) k.base f 0 p 0 ≡ Ok c → whole k f p ≡ payload k (text f p)
   unfolding settled
   whole_text p c e = whole_survey p ∙ rw e

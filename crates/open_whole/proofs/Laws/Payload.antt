@@ -31,7 +31,7 @@ use Rattle.stream.proofs.Laws.Apply.{length-apply}
 use Rattle.chacha20.specs.Rfc8439 as rfc8439
 use Rattle.pkcs7.specs.Pkcs7.{padding, strip}
 use Rattle.pkcs7.specs.Answer.{answer}
-use Rattle.pkcs7.specs.declared.Padding.TheVariants.{Of, Wrong}
+use Rattle.std.specs.Prelude.{Some, None}
 use Rattle.pkcs7.proofs.Laws.Padding.{padding-append, padding-le}
 use Rattle.opening.specs.declared.Keys.{Keys}
 use Rattle.opening.specs.Decryption.{refused, opened, aes_from, chacha_from, decryption_by, stripped, payload_by}
@@ -143,13 +143,13 @@ previous_two v t c lt h l =
     ∙ drop_at (take (c - 32) t) (take 16 (drop (c - 32) t)) (c - 32)
     (length-take-le (c - 32) t (omega arith))
 
-pub answer_wrong : (p : ℕ) → Wrong ≡ answer p → p ≡ 0
+pub answer_wrong : (p : ℕ) → None ≡ answer p → p ≡ 0
 unfolding answer
 answer_wrong p e =
     by_bool (eqb p 0) (λ t. eqb-true p 0 t)
     (λ t. let a = rw t at e in let z : ◌≡◌ {A = ℕ} 0 1 = cc in absurd (omega arith))
 
-pub answer_of : (p q : ℕ) → Of q ≡ answer p → (p ≡ q) × (q ≡ 0 → ⊥)
+pub answer_of : (p q : ℕ) → Some q ≡ answer p → (p ≡ q) × (q ≡ 0 → ⊥)
 unfolding answer
 answer_of p q e =
     by_bool (eqb p 0)

@@ -34,30 +34,30 @@ returns-then-c-ne0 c =
 some_piece : (c : ℕ) → (c ≡ 0 → ⊥) → c % 16 ≡ 0 → 16 ≤ c
 some_piece c z e = omega arith
 
-pub returns-in-Wrong : goal.returns-in-Wrong
-returns-in-Wrong c =
+pub returns-in-None : goal.returns-in-None
+returns-in-None c =
     let nonce_size : length c.args.k.nonce ≡ 16 = search rules in
     let a = c.args in
     let t = text a.f.now a.p in
     let h = c.if-c-ne0.false in
     let l = some_piece a.c c.if-c-eq0.false h in
     let x = c.last_piece-last.result in
-    let e : padding x ≡ 0 = answer_wrong (padding x) (sym c.in-Wrong.is ∙ c.check.ensures.value) in
+    let e : padding x ≡ 0 = answer_wrong (padding x) (sym c.in-None.is ∙ c.check.ensures.value) in
     answered-refused (payload_by Aes256 a.k t) WrongPadding a.out.now
     (payload_wrong a.k t a.c nonce_size c.requires h l x c.last_piece-last.ensures e)
 
 pub overflow_sub-m : goal.overflow_sub-m
 overflow_sub-m c =
     let padding_is =
-    answer_of (padding c.last_piece-last.result) c.in-Of.padding (sym c.in-Of.is ∙ c.check.ensures.value) in
+    answer_of (padding c.last_piece-last.result) c.in-Some.padding (sym c.in-Some.is ∙ c.check.ensures.value) in
     omega (arith, padding_is.0, padding-le c.last_piece-last.result)
 
 pub returns-then-out-c : goal.returns-then-out-c
 returns-then-out-c c =
     let nonce_size : length c.args.k.nonce ≡ 16 = search rules in
     let padding_is =
-    answer_of (padding c.last_piece-last.result) c.in-Of.padding (sym c.in-Of.is ∙ c.check.ensures.value) in
-    let q = c.in-Of.padding in
+    answer_of (padding c.last_piece-last.result) c.in-Some.padding (sym c.in-Some.is ∙ c.check.ensures.value) in
+    let q = c.in-Some.padding in
     let a = c.args in
     let t = text a.f.now a.p in
     let h = c.if-c-ne0.false in
@@ -78,12 +78,12 @@ write_aes-requires c =
       m_bound = (omega arith, c.if-out-c.false);
     }
 
-pub returns-in-Of : goal.returns-in-Of
-returns-in-Of c =
+pub returns-in-Some : goal.returns-in-Some
+returns-in-Some c =
     let nonce_size : length c.args.k.nonce ≡ 16 = search rules in
     let padding_is =
-    answer_of (padding c.last_piece-last.result) c.in-Of.padding (sym c.in-Of.is ∙ c.check.ensures.value) in
-    let q = c.in-Of.padding in
+    answer_of (padding c.last_piece-last.result) c.in-Some.padding (sym c.in-Some.is ∙ c.check.ensures.value) in
+    let q = c.in-Some.padding in
     let a = c.args in
     let t = text a.f.now a.p in
     let h = c.if-c-ne0.false in

@@ -30,8 +30,7 @@ use Rattle.ciphers.specs.declared.Cipher.TheVariants.{Aes256, ChaCha20}
 use Rattle.fips197.specs.Fips197.{inv_cipher}
 use Rattle.cbc.proofs.Laws.Mode.{length-decrypt}
 use Rattle.aes_cbc.proofs.RoundTrip.{inv_cipher-keeps}
-use Rattle.pkcs7.specs.declared.Padding.{Padding}
-use Rattle.pkcs7.specs.declared.Padding.TheVariants.{Of}
+use Rattle.std.specs.Prelude.{Option, Some}
 use Rattle.pkcs7.specs.Pkcs7.{padding, strip}
 use Rattle.pkcs7.specs.Answer.{answer}
 use Rattle.pkcs7.proofs.Laws.Check.{answer_of}
@@ -138,8 +137,8 @@ module _ (k : Keys) (c : ℕ) (v x : List ℕ) (o : Opener) (m : ℕ) where
 
 -- y is the last piece decrypted, z what its check finds: p bytes of padding. d is lent.
 module _ (k : Keys) (c : ℕ) (v x : List ℕ) (o : Opener) (d : List ℕ) (some-text : c ≡ 0 → ⊥) (whole : c % 16 ≡ 0)
-    (lv : length v ≡ 16) (lx : length x ≡ 16) (y : List ℕ) (ey : y ≡ aes_from k v x) (z : Padding)
-    (ez : z ≡ answer (padding y)) (p : ℕ) (ep : z ≡ Of p) where
+    (lv : length v ≡ 16) (lx : length x ≡ 16) (y : List ℕ) (ey : y ≡ aes_from k v x) (z : Option ℕ)
+    (ez : z ≡ answer (padding y)) (p : ℕ) (ep : z ≡ Some p) where
   length_piece : length (aes_from k v x) ≡ 16
   length_piece =
       length-decrypt (λ b. inv_cipher b k.round_keys.words) (inv_cipher-keeps k.round_keys.words) v lv x

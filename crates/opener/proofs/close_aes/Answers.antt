@@ -35,24 +35,24 @@ returns-then-o-ne0 c =
     c.if-o-ne0.true)
     (close_does WrongPadding _ _ d c.blank-closed.ensures c.refuse-then-o-ne0.ensures)
 
-pub returns-in-Wrong : goal.returns-in-Wrong
-returns-in-Wrong c =
+pub returns-in-None : goal.returns-in-None
+returns-in-None c =
     let a = c.args in
     let o = a.o in
     let d = a.out.now in
     let e : padding (aes_from o.keys o.prev o.held) ≡ 0 =
     ap padding (sym c.last_piece-piece.ensures)
     ∙ answer_wrong (padding c.last_piece-piece.result)
-    (sym c.check.ensures.value ∙ c.in-Wrong.is) in
+    (sym c.check.ensures.value ∙ c.in-None.is) in
     does_by _ (refuse WrongPadding (blank Closed)) _ d d
     (last_wrong o.keys o.taken o.prev o.held o (length d) c.if-o-eq0.false
     c.if-o-ne0.false e)
-    (close_does WrongPadding _ _ d c.blank-closed.ensures c.refuse-in-Wrong.ensures)
+    (close_does WrongPadding _ _ d c.blank-closed.ensures c.refuse-in-None.ensures)
 
 pub overflow_sub-n : goal.overflow_sub-n
 overflow_sub-n c =
     let x = c.last_piece-piece.result in
-    let e = (answer_of (padding x) _ (sym c.check.ensures.value ∙ c.in-Of.is)).0 in
+    let e = (answer_of (padding x) _ (sym c.check.ensures.value ∙ c.in-Some.is)).0 in
     omega (arith, e, padding-le x)
 
 pub returns-then-out-n : goal.returns-then-out-n
@@ -63,7 +63,7 @@ returns-then-out-n c =
     let d = c.args.out.now in
     last_short o.keys o.taken o.prev o.held o d c.if-o-eq0.false c.if-o-ne0.false
     long_prev long_held _ c.last_piece-piece.ensures _ c.check.ensures.value _
-    c.in-Of.is _
+    c.in-Some.is _
     c.if-out-n.true c.refuse-then-out-n.ensures
 
 pub slice_bounds-copy-end : goal.slice_bounds-copy-end
@@ -72,13 +72,13 @@ slice_bounds-copy-end c =
     let l : length x ≡ 16 = search rules in
     sym (length-take-le _ x (rw l (omega arith)))
 
-pub returns-in-Of : goal.returns-in-Of
-returns-in-Of c =
+pub returns-in-Some : goal.returns-in-Some
+returns-in-Some c =
     let long_prev : length c.args.o.prev ≡ 16 = search rules in
     let long_held : length c.args.o.held ≡ 16 = search rules in
     let o = c.args.o in
     let d = c.args.out.now in
     last_does o.keys o.taken o.prev o.held o d c.if-o-eq0.false c.if-o-ne0.false
     long_prev long_held _ c.last_piece-piece.ensures _ c.check.ensures.value _
-    c.in-Of.is _ _
+    c.in-Some.is _ _
     c.if-out-n.false c.blank-ended.ensures c.copy.ensures

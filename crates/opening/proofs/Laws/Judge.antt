@@ -19,8 +19,7 @@ use lib.Dec.{eqb, leb, ltb}
 use lib.ListN.{length, drop, length-drop}
 use lib.Seq.{length-take-le}
 use Rattle.words.specs.Size.{int32}
-use Rattle.words.specs.declared.le.Size.{Size}
-use Rattle.words.specs.declared.le.Size.TheVariants.{Of, Negative}
+use Rattle.std.specs.Prelude.{Option, Some, None}
 use Rattle.words.proofs.Laws.Cases.{by_bool}
 use Rattle.refusals.specs.declared.Refusal.{Refusal}
 use Rattle.refusals.specs.declared.Refusal.TheVariants.{
@@ -60,7 +59,7 @@ closing_wrong_padding = record { no_room = λ e. never (cc); no_step = λ e. nev
 pub closing_is : {r s : Refusal} → r ≡ s → Closing r → Closing s
 closing_is e c = record { no_room = λ h. c.no_room (e ∙ h); no_step = λ h. c.no_step (e ∙ h) }
 
-pub int32_of : (n m : ℕ) → int32 n ≡ Of m → n ≡ m
+pub int32_of : (n m : ℕ) → int32 n ≡ Some m → n ≡ m
 unfolding int32
 int32_of n m h = by_bool (ltb n (2 ^ 31)) (λ t. let e = rw t at h in cc e) (λ t. let e = rw t at h in never (cc e))
 
@@ -121,11 +120,11 @@ before_size base f i p b n h =
     (λ u. let e = rw (t, u) at h in absurd (n (CutShort 0) (sym e))))
     (λ t. let e = rw t at h in absurd (n TooLong (sym e)))
 
-judge_size_data : (base f : List ℕ) (i p n : ℕ) (s : Size) → int32 (size_at f p) ≡ s → p + 36 ≤ length f
+judge_size_data : (base f : List ℕ) (i p n : ℕ) (s : Option ℕ) → int32 (size_at f p) ≡ s → p + 36 ≤ length f
     → judge_size base f i p s ≡ block.Data n → Passed base f i p n
 unfolding judge_size found
-judge_size_data base f i p n Negative e l h = never (cc)
-judge_size_data base f i p n (Of m) e l h =
+judge_size_data base f i p n None e l h = never (cc)
+judge_size_data base f i p n (Some m) e l h =
     let t = verdict_data (leb m (length f - (p + 36))) (holds base f i p m) (eqb m 0) m n h in
     let fits = leb-true m (length f - (p + 36)) t.fits_is in
     let same = t.same in
@@ -135,11 +134,11 @@ judge_size_data base f i p n (Of m) e l h =
       tag_does_hold = ap (λ (x : ℕ). holds base f i p x) (sym same) ∙ t.tagged_is;
     }
 
-judge_size_closing : (base f : List ℕ) (i p : ℕ) (s : Size) → int32 (size_at f p) ≡ s → p + 36 ≤ length f
+judge_size_closing : (base f : List ℕ) (i p : ℕ) (s : Option ℕ) → int32 (size_at f p) ≡ s → p + 36 ≤ length f
     → judge_size base f i p s ≡ block.Closing → Passed base f i p 0
 unfolding judge_size found
-judge_size_closing base f i p Negative e l h = never (cc)
-judge_size_closing base f i p (Of m) e l h =
+judge_size_closing base f i p None e l h = never (cc)
+judge_size_closing base f i p (Some m) e l h =
     let t = verdict_closing (leb m (length f - (p + 36))) (holds base f i p m) (eqb m 0) m h in
     let same = eqb-true m 0 t.empty_is in
     record {
@@ -148,11 +147,11 @@ judge_size_closing base f i p (Of m) e l h =
       tag_does_hold = ap (λ (x : ℕ). holds base f i p x) (sym same) ∙ t.tagged_is;
     }
 
-judge_size-refused : (base f : List ℕ) (i p : ℕ) (r : Refusal) (s : Size) → judge_size base f i p s ≡ block.Refused r
+judge_size-refused : (base f : List ℕ) (i p : ℕ) (r : Refusal) (s : Option ℕ) → judge_size base f i p s ≡ block.Refused r
     → Closing r
 unfolding judge_size found
-judge_size-refused base f i p r Negative h = closing_is (cc) closing_wrong_size
-judge_size-refused base f i p r (Of m) h =
+judge_size-refused base f i p r None h = closing_is (cc) closing_wrong_size
+judge_size-refused base f i p r (Some m) h =
     verdict-refused (leb m (length f - (p + 36))) (holds base f i p m) (eqb m 0) m r h
 
 pub judge_data : (base f : List ℕ) (i p n : ℕ) → judge base f i p ≡ block.Data n → Passed base f i p n
@@ -160,10 +159,10 @@ judge_data base f i p n h =
     let s = before_size base f i p (block.Data n) (λ r e. never (cc)) h in
     judge_size_data base f i p n (int32 (size_at f p)) refl s.header_present s.found_is
 
-judge_size_some : (base f : List ℕ) (i p n : ℕ) (s : Size) → judge_size base f i p s ≡ block.Data n → (n ≡ 0 → ⊥)
+judge_size_some : (base f : List ℕ) (i p n : ℕ) (s : Option ℕ) → judge_size base f i p s ≡ block.Data n → (n ≡ 0 → ⊥)
 unfolding judge_size found
-judge_size_some base f i p n Negative h = never (cc)
-judge_size_some base f i p n (Of m) h =
+judge_size_some base f i p n None h = never (cc)
+judge_size_some base f i p n (Some m) h =
     let t = verdict_data (leb m (length f - (p + 36))) (holds base f i p m) (eqb m 0) m n h in
     λ z. eqb-false m 0 t.empty_is (t.same ∙ z)
 

@@ -27,18 +27,12 @@ use Rattle.refusals.specs.Limits.{file_limit}
 use Rattle.fields.specs.Fields.{bytes_at, end_of, given}
 use Rattle.ciphers.specs.Ciphers.{cipher_of, nonce_length}
 use Rattle.ciphers.specs.declared.Cipher.{Cipher}
-use Rattle.ciphers.specs.declared.Identified.{Identified}
-use Rattle.ciphers.specs.declared.Identified.TheVariants.{As, Unlisted}
+use Rattle.std.specs.Prelude.{Option, Some, None, Ok, Err, Result}
 use Rattle.kdf_dictionary.specs.KdfDictionary.{kdf_of}
 use Rattle.kdf_dictionary.specs.declared.Kdf.{Kdf}
-use Rattle.kdf_dictionary.specs.declared.Reading.{Reading as KdfReading}
-use Rattle.kdf_dictionary.specs.declared.Reading.TheVariants as kdf
 use Rattle.kdf_dictionary.proofs.Laws.Asks.{IsAsked, kdf_of_asks}
 use Rattle.outer_header.specs.declared.walk.Fields.{Fields}
-use Rattle.outer_header.specs.declared.walk.Walked.{Walked}
-use Rattle.outer_header.specs.declared.walk.Walked.TheVariants as walked
 use Rattle.outer_header.specs.declared.Header.{Header}
-use Rattle.outer_header.specs.declared.Reading.TheVariants as read
 use Rattle.outer_header.specs.Kdbx4Header.{
   no_fields,
   walk,
@@ -54,7 +48,7 @@ use Rattle.outer_header.specs.Kdbx4Header.{
 }
 use Rattle.outer_header.proofs.Laws.Walk.{no_fields-placed, walk_ends}
 
-refused_never : (r : Refusal) (h : Header) → read.Refused r ≡ read.Header h → ⊥
+refused_never : (r : Refusal) (h : Header) → Err r ≡ Ok h → ⊥
 refused_never r h e = let z : ◌≡◌ {A = ℕ} 0 1 = cc in omega arith
 
 -- the header of these fields
@@ -74,26 +68,26 @@ header_of f minor end c k =
 -- the checks after the end field, passed
 pub record IsJudged (s : List ℕ) (f : Fields) (minor end : ℕ) (h : Header) : Type 0 where
   pub complete_is : complete f ≡ true
-  pub cipher_is : cipher_of (bytes_at s f.cipher) ≡ As h.cipher
+  pub cipher_is : cipher_of (bytes_at s f.cipher) ≡ Some h.cipher
   pub compression_is : le 4 s f.compression.start ≡ 0
   pub nonce_is : f.nonce.length ≡ nonce_length h.cipher
-  pub kdf_is : kdf_of s f.kdf ≡ kdf.Asks h.kdf
+  pub kdf_is : kdf_of s f.kdf ≡ Ok h.kdf
   pub custom_is : custom_of s f.custom ≡ outcome.Accepted
   pub header_is : h ≡ header_of f minor end h.cipher h.kdf
 
 module _ (s : List ℕ) (f : Fields) (minor end : ℕ) (h : Header) where
-  figures_in-accepts : (c : Cipher) (k : KdfReading) (o : Outcome) → complete f ≡ true
-      → cipher_of (bytes_at s f.cipher) ≡ As c
+  figures_in-accepts : (c : Cipher) (k : Result Kdf Refusal) (o : Outcome) → complete f ≡ true
+      → cipher_of (bytes_at s f.cipher) ≡ Some c
       → le 4 s f.compression.start ≡ 0
       → f.nonce.length ≡ nonce_length c
       → kdf_of s f.kdf ≡ k
       → custom_of s f.custom ≡ o
-      → figures_in f minor end c k o ≡ read.Header h
+      → figures_in f minor end c k o ≡ Ok h
       → IsJudged s f minor end h
   unfolding figures_in
-  figures_in-accepts c (kdf.Refused r) o t u v w x y e = absurd (refused_never r h e)
-  figures_in-accepts c (kdf.Asks k) (outcome.Refused r) t u v w x y e = absurd (refused_never r h e)
-  figures_in-accepts c (kdf.Asks k) outcome.Accepted t u v w x y e =
+  figures_in-accepts c (Err r) o t u v w x y e = absurd (refused_never r h e)
+  figures_in-accepts c (Ok k) (outcome.Refused r) t u v w x y e = absurd (refused_never r h e)
+  figures_in-accepts c (Ok k) outcome.Accepted t u v w x y e =
       let q : header_of f minor end c k ≡ h = cc in
       rw (← q) (record {
         complete_is = t;
@@ -105,12 +99,12 @@ module _ (s : List ℕ) (f : Fields) (minor end : ℕ) (h : Header) where
         header_is = refl;
       })
 
-  identified-accepts : (i : Identified) → complete f ≡ true → cipher_of (bytes_at s f.cipher) ≡ i
-      → identified s f minor end i ≡ read.Header h
+  identified-accepts : (i : Option Cipher) → complete f ≡ true → cipher_of (bytes_at s f.cipher) ≡ i
+      → identified s f minor end i ≡ Ok h
       → IsJudged s f minor end h
   unfolding identified figures
-  identified-accepts Unlisted t u = λ e. absurd (refused_never _ h e)
-  identified-accepts (As c) t u =
+  identified-accepts None t u = λ e. absurd (refused_never _ h e)
+  identified-accepts (Some c) t u =
       by_bool (eqb (le 4 s f.compression.start) 0)
       (λ v. by_bool (eqb f.nonce.length (nonce_length c))
       (λ w. rw (v, w) (λ e. figures_in-accepts c (kdf_of s f.kdf) (custom_of s f.custom) t u (eqb-true _ 0 v)
@@ -118,7 +112,7 @@ module _ (s : List ℕ) (f : Fields) (minor end : ℕ) (h : Header) where
       (λ w. rw (v, w) (λ e. absurd (refused_never _ h e))))
       (λ v. rw v (λ e. absurd (refused_never _ h e)))
 
-  pub judged-accepts : judged s f minor end ≡ read.Header h → IsJudged s f minor end h
+  pub judged-accepts : judged s f minor end ≡ Ok h → IsJudged s f minor end h
   unfolding judged
   judged-accepts =
       by_bool (complete f)
@@ -126,22 +120,22 @@ module _ (s : List ℕ) (f : Fields) (minor end : ℕ) (h : Header) where
       (λ t. rw t (λ e. absurd (refused_never _ h e)))
 
 pub accepts-judged : (s : List ℕ) (f : Fields) (minor end : ℕ) (c : Cipher) (k : Kdf) → complete f ≡ true
-    → cipher_of (bytes_at s f.cipher) ≡ As c
+    → cipher_of (bytes_at s f.cipher) ≡ Some c
     → le 4 s f.compression.start ≡ 0
     → f.nonce.length ≡ nonce_length c
-    → kdf_of s f.kdf ≡ kdf.Asks k
+    → kdf_of s f.kdf ≡ Ok k
     → custom_of s f.custom ≡ outcome.Accepted
-    → judged s f minor end ≡ read.Header (header_of f minor end c k)
+    → judged s f minor end ≡ Ok (header_of f minor end c k)
 unfolding judged identified figures figures_in
 accepts-judged s f minor end c k t u v w x y =
     rw (t, u, eq-eqb (le 4 s f.compression.start) 0 v, eq-eqb f.nonce.length (nonce_length c) w, x, y)
 
 pub refuses_judged : (s : List ℕ) (f : Fields) (minor end : ℕ) (c : Cipher) (r : Refusal) → complete f ≡ true
-    → cipher_of (bytes_at s f.cipher) ≡ As c
+    → cipher_of (bytes_at s f.cipher) ≡ Some c
     → le 4 s f.compression.start ≡ 0
     → f.nonce.length ≡ nonce_length c
-    → kdf_of s f.kdf ≡ kdf.Refused r
-    → judged s f minor end ≡ read.Refused r
+    → kdf_of s f.kdf ≡ Err r
+    → judged s f minor end ≡ Err r
 unfolding judged identified figures figures_in
 refuses_judged s f minor end c r t u v w x =
     rw (t, u, eq-eqb (le 4 s f.compression.start) 0 v, eq-eqb f.nonce.length (nonce_length c) w, x)
@@ -155,32 +149,32 @@ pub record IsHeader (s : List ℕ) (h : Header) : Type 0 where
   pub minor_le : h.minor ≤ 1
   pub version_is : le 4 s 8 ≡ 0x40000 + h.minor
   pub fields : Fields
-  pub walk_is : walk (length s) no_fields s 12 ≡ walked.Ended fields h.length
-  pub judged_is : judged s fields h.minor h.length ≡ read.Header h
+  pub walk_is : walk (length s) no_fields s 12 ≡ Ok (fields, h.length)
+  pub judged_is : judged s fields h.minor h.length ≡ Ok h
 
 record IsBody (s : List ℕ) (minor : ℕ) (h : Header) : Type 0 where
   fields : Fields
   minor_is : h.minor ≡ minor
-  walk_is : walk (length s) no_fields s 12 ≡ walked.Ended fields h.length
-  judged_is : judged s fields h.minor h.length ≡ read.Header h
+  walk_is : walk (length s) no_fields s 12 ≡ Ok (fields, h.length)
+  judged_is : judged s fields h.minor h.length ≡ Ok h
 
-judged_in-accepts : (s : List ℕ) (minor : ℕ) (h : Header) (w : Walked) → walk (length s) no_fields s 12 ≡ w
-    → judged_in s minor w ≡ read.Header h
+judged_in-accepts : (s : List ℕ) (minor : ℕ) (h : Header) (w : Result (Fields × ℕ) Refusal) → walk (length s) no_fields s 12 ≡ w
+    → judged_in s minor w ≡ Ok h
     → IsBody s minor h
 unfolding judged_in
-judged_in-accepts s minor h (walked.Refused r) q e = absurd (refused_never r h e)
-judged_in-accepts s minor h (walked.Ended f end) q e =
+judged_in-accepts s minor h (Err r) q e = absurd (refused_never r h e)
+judged_in-accepts s minor h (Ok (f, end)) q e =
     let i = (judged-accepts s f minor end h e).header_is in
     let m : h.minor ≡ minor = ap (λ (x : Header). x.minor) i in
     let l : h.length ≡ end = ap (λ (x : Header). x.length) i in
     record {
       fields = f;
       minor_is = m;
-      walk_is = q ∙ ap (λ (n : ℕ). walked.Ended f n) (sym l);
+      walk_is = q ∙ ap (λ (n : ℕ). Ok (f, n)) (sym l);
       judged_is = ap₂ (λ (a b : ℕ). judged s f a b) m l ∙ e;
     }
 
-body-accepts : (s : List ℕ) (minor : ℕ) (h : Header) → body s minor ≡ read.Header h → IsBody s minor h
+body-accepts : (s : List ℕ) (minor : ℕ) (h : Header) → body s minor ≡ Ok h → IsBody s minor h
 unfolding body
 body-accepts s minor h e = judged_in-accepts s minor h (walk (length s) no_fields s 12) refl e
 
@@ -188,7 +182,7 @@ is_header : (s : List ℕ) (minor : ℕ) (h : Header) → length s ≤ file_limi
     → le 4 s 4 ≡ 0xB54BFB67
     → minor ≤ 1
     → le 4 s 8 ≡ 0x40000 + minor
-    → body s minor ≡ read.Header h
+    → body s minor ≡ Ok h
     → IsHeader s h
 is_header s minor h t u v w m x e =
     let b = body-accepts s minor h e in
@@ -205,7 +199,7 @@ is_header s minor h t u v w m x e =
       judged_is = b.judged_is;
     }
 
-pub header-accepts : (s : List ℕ) (h : Header) → header s ≡ read.Header h → IsHeader s h
+pub header-accepts : (s : List ℕ) (h : Header) → header s ≡ Ok h → IsHeader s h
 unfolding header
 header-accepts s h =
     by_bool (leb (length s) file_limit)
@@ -255,12 +249,12 @@ pub header-judged : (s : List ℕ) (minor end : ℕ) (f : Fields) → length s �
     → le 4 s 4 ≡ 0xB54BFB67
     → minor ≤ 1
     → le 4 s 8 ≡ 0x40000 + minor
-    → walk (length s) no_fields s 12 ≡ walked.Ended f end
+    → walk (length s) no_fields s 12 ≡ Ok (f, end)
     → header s ≡ judged s f minor end
 unfolding body judged_in
 header-judged s minor end f t u v w m x e = header-body s minor t u v w m x ∙ rw e
 
-pub accepts-header : (s : List ℕ) (h : Header) → IsHeader s h → header s ≡ read.Header h
+pub accepts-header : (s : List ℕ) (h : Header) → IsHeader s h → header s ≡ Ok h
 accepts-header s h i =
     header-judged s h.minor h.length i.fields i.fits i.long i.first_is i.second_is i.minor_le
     i.version_is i.walk_is
@@ -291,7 +285,7 @@ unfolding complete
 complete_given f t =
     complete-seed (given f.cipher) (given f.compression) (given f.seed) (given f.nonce) (given f.kdf) t
 
-pub header_stands : (s : List ℕ) (h : Header) → header s ≡ read.Header h → HeaderStands s h
+pub header_stands : (s : List ℕ) (h : Header) → header s ≡ Ok h → HeaderStands s h
 header_stands s h e =
     let i = header-accepts s h e in
     let f = i.fields in

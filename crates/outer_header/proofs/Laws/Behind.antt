@@ -20,8 +20,7 @@ use lib.Seq.{get_or-take, take-append-le, drop-append-le, length-take-le}
 use borrow.Author.Tests.{le-leb}
 use Rattle.words.specs.Endian.{le}
 use Rattle.words.specs.Size.{int32}
-use Rattle.words.specs.declared.le.Size.{Size}
-use Rattle.words.specs.declared.le.Size.TheVariants.{Of, Negative}
+use Rattle.std.specs.Prelude.{Option, Some, None, Result, Ok, Err}
 use Rattle.words.proofs.Laws.Cases.{by_bool}
 use Rattle.words.proofs.Laws.Endian.{le-append, le-take}
 use Rattle.slices.proofs.Laws.Parts.{part_front}
@@ -30,17 +29,12 @@ use Rattle.refusals.specs.Limits.{file_limit}
 use Rattle.fields.specs.Fields.{bytes_at, end_of, fits, value_at, field_at}
 use Rattle.fields.specs.declared.Place.{Place}
 use Rattle.fields.specs.declared.SizeRule.{SizeRule}
-use Rattle.fields.specs.declared.Field.{Field}
-use Rattle.fields.specs.declared.Field.TheVariants as field
 use Rattle.ciphers.specs.Ciphers.{cipher_of}
-use Rattle.ciphers.specs.declared.Identified.{Identified}
-use Rattle.ciphers.specs.declared.Identified.TheVariants.{As, Unlisted}
+use Rattle.ciphers.specs.declared.Cipher.{Cipher}
 use Rattle.kdf_dictionary.proofs.Laws.Asks.{kdf_of_bytes}
+use Rattle.words.proofs.Laws.Pairs.{ok_second}
 use Rattle.outer_header.specs.declared.walk.Fields.{Fields}
-use Rattle.outer_header.specs.declared.walk.Walked.{Walked}
-use Rattle.outer_header.specs.declared.walk.Walked.TheVariants as walked
 use Rattle.outer_header.specs.declared.Header.{Header}
-use Rattle.outer_header.specs.declared.Reading.TheVariants as read
 use Rattle.outer_header.specs.Kdbx4Header.{
   listed,
   size_rule,
@@ -90,23 +84,23 @@ append_alike n s t h =
           ∙ take-append-le k (drop i (take n s)) t d ∙ part_front n i k s b;
     }
 
-field_never : (r : Refusal) (id : ℕ) (p : Place) → field.Refused r ≡ field.At id p → ⊥
+field_never : (r : Refusal) (id : ℕ) (p : Place) → ◌≡◌ {A = Result (ℕ × Place) Refusal} (Err r) (Ok (id, p)) → ⊥
 field_never r id p e = let z : ◌≡◌ {A = ℕ} 0 1 = cc in omega arith
 
-pub walked_never : (r : Refusal) (f : Fields) (n : ℕ) → walked.Refused r ≡ walked.Ended f n → ⊥
+pub walked_never : (r : Refusal) (f : Fields) (n : ℕ) → ◌≡◌ {A = Result (Fields × ℕ) Refusal} (Err r) (Ok (f, n)) → ⊥
 walked_never r f n e = let z : ◌≡◌ {A = ℕ} 0 1 = cc in omega arith
 
 module _ (n : ℕ) (s t : List ℕ) (a : Alike n s t) where
-  value_at_alike : (rule : SizeRule) (at : ℕ) (z : Size) (id : ℕ) (p : Place) → end_of p ≤ n
-      → value_at rule s at z ≡ field.At id p
-      → value_at rule t at z ≡ field.At id p
+  value_at_alike : (rule : SizeRule) (at : ℕ) (z : Option ℕ) (id : ℕ) (p : Place) → end_of p ≤ n
+      → value_at rule s at z ≡ Ok (id, p)
+      → value_at rule t at z ≡ Ok (id, p)
   unfolding value_at
-  value_at_alike rule at Negative id p h = λ e. e
-  value_at_alike rule at (Of k) id p h =
+  value_at_alike rule at None id p h = λ e. e
+  value_at_alike rule at (Some k) id p h =
       by_bool (fits rule k)
       (λ u. by_bool (leb k (length s - (at + 5)))
       (λ v. rw (u, v) (λ e.
-      let q : record { start = at + 5; length = k } ≡ p = cc in
+      let q : record { start = at + 5; length = k } ≡ p = ok_second e in
       let l : at + 5 + k ≤ n = rw (← q) at h in
       let m : k ≤ length t - (at + 5) = omega (arith, a.long) in
       rw (le-leb k (length t - (at + 5)) m, a.byte at (omega arith)) e))
@@ -116,8 +110,8 @@ module _ (n : ℕ) (s t : List ℕ) (a : Alike n s t) where
   field_at_alike : (l r : Bool) (rule : SizeRule) (at id : ℕ) (p : Place) → at + 5 ≤ length t
       → le 4 t (at + 1) ≡ le 4 s (at + 1)
       → end_of p ≤ n
-      → field_at l r rule s at ≡ field.At id p
-      → field_at l r rule t at ≡ field.At id p
+      → field_at l r rule s at ≡ Ok (id, p)
+      → field_at l r rule t at ≡ Ok (id, p)
   unfolding field_at
   field_at_alike l r rule at id p q w h =
       by_bool (leb (at + 5) (length s))
@@ -128,8 +122,8 @@ module _ (n : ℕ) (s t : List ℕ) (a : Alike n s t) where
       (λ v. rw (u, v) (λ e. absurd (field_never _ id p e))))
       (λ u. rw u (λ e. absurd (field_never _ id p e)))
 
-  pub field_here_alike : (f : Fields) (at id : ℕ) (p : Place) → end_of p ≤ n → field_here f s at ≡ field.At id p
-      → field_here f t at ≡ field.At id p
+  pub field_here_alike : (f : Fields) (at id : ℕ) (p : Place) → end_of p ≤ n → field_here f s at ≡ Ok (id, p)
+      → field_here f t at ≡ Ok (id, p)
   unfolding field_here
   field_here_alike f at id p h e =
       let x = field_here_stands f s at id p e in
@@ -143,25 +137,25 @@ module _ (n : ℕ) (s t : List ℕ) (a : Alike n s t) where
   unfolding ends_right
   ends_right_alike p h = rw (a.part p.start p.length h)
 
-  walk_in_alike : (f : Fields) (at : ℕ) (e : Field) (rest more : Fields → ℕ → Walked) (g : Fields) (end : ℕ)
+  walk_in_alike : (f : Fields) (at : ℕ) (e : Result (ℕ × Place) Refusal) (rest more : Fields → ℕ → Result (Fields × ℕ) Refusal) (g : Fields) (end : ℕ)
       → field_here f s at ≡ e
       → Placed f at
       → end ≤ n
-      → ((f₁ : Fields) (m : ℕ) → Placed f₁ m → rest f₁ m ≡ walked.Ended g end → m ≤ end)
-      → ((f₁ : Fields) (m : ℕ) → Placed f₁ m → at + 5 ≤ m → rest f₁ m ≡ walked.Ended g end
-      → more f₁ m ≡ walked.Ended g end)
-      → walk_in f s e rest ≡ walked.Ended g end
-      → walk_in f t (field_here f t at) more ≡ walked.Ended g end
+      → ((f₁ : Fields) (m : ℕ) → Placed f₁ m → rest f₁ m ≡ Ok (g, end) → m ≤ end)
+      → ((f₁ : Fields) (m : ℕ) → Placed f₁ m → at + 5 ≤ m → rest f₁ m ≡ Ok (g, end)
+      → more f₁ m ≡ Ok (g, end))
+      → walk_in f s e rest ≡ Ok (g, end)
+      → walk_in f t (field_here f t at) more ≡ Ok (g, end)
   unfolding walk_in
-  walk_in_alike f at (field.Refused r) rest more g end q d h far on = λ e. absurd (walked_never r g end e)
-  walk_in_alike f at (field.At id p) rest more g end q d h far on =
+  walk_in_alike f at (Err r) rest more g end q d h far on = λ e. absurd (walked_never r g end e)
+  walk_in_alike f at (Ok (id, p)) rest more g end q d h far on =
       let x = field_here_stands f s at id p q in
       let l : at ≤ end_of p = omega arith in
       let d₁ = put_placed f id p at d l (field_here-fits f s at id p q) in
       by_bool (eqb id 0)
       (λ u. by_bool (ends_right s p)
       (λ v. rw (u, v) (λ e.
-      let m : end_of p ≡ end = cc in
+      let m : end_of p ≡ end = ok_second e in
       let b : end_of p ≤ n = omega arith in
       rw (field_here_alike f at id p b q, u, ends_right_alike p b, v) e))
       (λ v. rw (u, v) (λ e. absurd (walked_never _ g end e))))
@@ -171,8 +165,8 @@ module _ (n : ℕ) (s t : List ℕ) (a : Alike n s t) where
       rw (field_here_alike f at id p b q, u) (on (put f id p) (end_of p) d₁ (omega arith) e)))
 
   pub walk_alike : (k m : ℕ) (f : Fields) (at : ℕ) (g : Fields) (end : ℕ) → Placed f at → end ≤ n → end ≤ m + at
-      → walk k f s at ≡ walked.Ended g end
-      → walk m f t at ≡ walked.Ended g end
+      → walk k f s at ≡ Ok (g, end)
+      → walk m f t at ≡ Ok (g, end)
   unfolding walk
   walk_alike zero m f at g end d h l e = absurd (walked_never _ g end e)
   walk_alike (suc k) zero f at g end d h l e =
@@ -184,11 +178,11 @@ module _ (n : ℕ) (s t : List ℕ) (a : Alike n s t) where
       (λ f₁ i d₁ e₁. let w = walk_ends k f₁ s i g end d₁ e₁ in omega arith)
       (λ f₁ i d₁ b e₁. walk_alike k m f₁ i g end d₁ h (omega arith) e₁) e
 
-  identified_alike : (f : Fields) (minor end : ℕ) (i : Identified) → Placed f n
+  identified_alike : (f : Fields) (minor end : ℕ) (i : Option Cipher) → Placed f n
       → identified t f minor end i ≡ identified s f minor end i
   unfolding identified figures custom_of
-  identified_alike f minor end Unlisted d = refl
-  identified_alike f minor end (As c) d =
+  identified_alike f minor end None d = refl
+  identified_alike f minor end (Some c) d =
       rw (
         a.word f.compression.start d.compression_le,
         kdf_of_bytes t s f.kdf (a.part f.kdf.start f.kdf.length d.kdf_le),
@@ -203,8 +197,8 @@ module _ (n : ℕ) (s t : List ℕ) (a : Alike n s t) where
         identified_alike f minor end (cipher_of (bytes_at s f.cipher)) d,
       )
 
-pub header_alike : (s t : List ℕ) (h : Header) → Alike h.length s t → length t ≤ file_limit → header s ≡ read.Header h
-    → header t ≡ read.Header h
+pub header_alike : (s t : List ℕ) (h : Header) → Alike h.length s t → length t ≤ file_limit → header s ≡ Ok h
+    → header t ≡ Ok h
 header_alike s t h a b e =
     let i = header-accepts s h e in
     let f = i.fields in
@@ -225,9 +219,9 @@ header_alike s t h a b e =
     })
 
 -- "Bytes behind the end field are no fault of the header"
-pub header_behind : (s t : List ℕ) (h : Header) → header s ≡ read.Header h
+pub header_behind : (s t : List ℕ) (h : Header) → header s ≡ Ok h
     → length (take h.length s ++ t) ≤ file_limit
-    → header (take h.length s ++ t) ≡ read.Header h
+    → header (take h.length s ++ t) ≡ Ok h
 header_behind s t h e b =
     let x = header_stands s h e in
     header_alike s (take h.length s ++ t) h (append_alike h.length s t x.length_le) b e

@@ -22,19 +22,15 @@ use lib.ListN.{length, get_or}
 use borrow.Author.Tests.{eqb-true, lt-leb}
 use Rattle.words.specs.Endian.{le}
 use Rattle.words.specs.Size.{int32}
-use Rattle.words.specs.declared.le.Size.{Size}
-use Rattle.words.specs.declared.le.Size.TheVariants.{Of, Negative}
+use Rattle.std.specs.Prelude.{Option, Some, None, Result, Ok, Err}
 use Rattle.words.proofs.Laws.Cases.{by_bool}
 use Rattle.refusals.specs.declared.Refusal.TheVariants.{CutShort, WrongSize}
 use Rattle.fields.specs.Fields.{end_of, begin, fits, value_at, field_at, given}
 use Rattle.fields.specs.declared.Place.{Place}
 use Rattle.fields.specs.declared.SizeRule.{SizeRule}
-use Rattle.fields.specs.declared.Field.{Field}
-use Rattle.fields.specs.declared.Field.TheVariants as field
+use Rattle.refusals.specs.declared.Refusal.{Refusal}
 use Rattle.fields.proofs.Laws.Fields.{Stands, field_at_stands}
 use Rattle.outer_header.specs.declared.walk.Fields.{Fields}
-use Rattle.outer_header.specs.declared.walk.Walked.{Walked}
-use Rattle.outer_header.specs.declared.walk.Walked.TheVariants as walked
 use Rattle.outer_header.specs.Kdbx4Header.{
   listed,
   size_rule,
@@ -49,21 +45,21 @@ use Rattle.outer_header.specs.Kdbx4Header.{
   body,
 }
 
-pub field_here_stands : (f : Fields) (s : List ℕ) (at id : ℕ) (p : Place) → field_here f s at ≡ field.At id p
+pub field_here_stands : (f : Fields) (s : List ℕ) (at id : ℕ) (p : Place) → field_here f s at ≡ Ok (id, p)
     → Stands s at id p
 unfolding field_here
 field_here_stands f s at id p e =
     field_at_stands (listed (get_or s at 0)) (seen f (get_or s at 0)) (size_rule (get_or s at 0)) s at id p e
 
 -- a size that fits; nothing is said of a refusal
-abbrev Fitting : SizeRule → Field → Type 0
-Fitting rule (field.At id p) = fits rule p.length ≡ true
-Fitting rule (field.Refused r) = 0 ≤ 0
+abbrev Fitting : SizeRule → Result (ℕ × Place) Refusal → Type 0
+Fitting rule (Ok (id, p)) = fits rule p.length ≡ true
+Fitting rule (Err r) = 0 ≤ 0
 
-value_at-fitting : (rule : SizeRule) (s : List ℕ) (at : ℕ) (z : Size) → Fitting rule (value_at rule s at z)
+value_at-fitting : (rule : SizeRule) (s : List ℕ) (at : ℕ) (z : Option ℕ) → Fitting rule (value_at rule s at z)
 unfolding value_at
-value_at-fitting rule s at Negative = omega arith
-value_at-fitting rule s at (Of n) =
+value_at-fitting rule s at None = omega arith
+value_at-fitting rule s at (Some n) =
     by_bool (fits rule n)
     (λ t. by_bool (leb n (length s - (at + 5))) (λ u. rw (t, u) t) (λ u. rw (t, u) (omega arith)))
     (λ t. rw t (omega arith))
@@ -79,7 +75,7 @@ field_at-fitting l r rule s at =
     (λ u. rw (t, u) (omega arith)))
     (λ t. rw t (omega arith))
 
-pub field_here-fits : (f : Fields) (s : List ℕ) (at id : ℕ) (p : Place) → field_here f s at ≡ field.At id p
+pub field_here-fits : (f : Fields) (s : List ℕ) (at id : ℕ) (p : Place) → field_here f s at ≡ Ok (id, p)
     → fits (size_rule id) p.length ≡ true
 unfolding field_here
 field_here-fits f s at id p e =
@@ -87,7 +83,7 @@ field_here-fits f s at id p e =
     rw e at (field_at-fitting (listed (get_or s at 0)) (seen f (get_or s at 0)) (size_rule (get_or s at 0)) s at) in
     rw (field_here_stands f s at id p e).id_is h
 
-pub walk_more : (k : ℕ) (f : Fields) (s : List ℕ) (at : ℕ) (e : Field) → 0 < k → e ≡ field_here f s at
+pub walk_more : (k : ℕ) (f : Fields) (s : List ℕ) (at : ℕ) (e : Result (ℕ × Place) Refusal) → 0 < k → e ≡ field_here f s at
     → walk k f s at ≡ walk_in f s e (λ (g : Fields) (n : ℕ). walk (k - 1) g s n)
 unfolding walk
 walk_more zero f s at e h p = absurd (omega arith)
@@ -95,21 +91,21 @@ walk_more (suc k) f s at e h p = rw (p, sub-one)
 
 -- nothing stands behind the end
 field_here_past : (f : Fields) (s : List ℕ) (at : ℕ) → length s ≤ at
-    → field_here f s at ≡ field.Refused (CutShort (length s))
+    → field_here f s at ≡ Err (CutShort (length s))
 unfolding field_here field_at
 field_here_past f s at h =
     let l : length s < at + 5 = omega arith in
     rw (lt-leb (at + 5) (length s) l)
 
 -- two ways on from a field agree: a walk goes on at a field's end alone
-walk_in-agree : (f : Fields) (s : List ℕ) (e : Field) (g h : Fields → ℕ → Walked)
-    → ((id : ℕ) (p : Place) → e ≡ field.At id p → g (put f id p) (end_of p) ≡ h (put f id p) (end_of p))
+walk_in-agree : (f : Fields) (s : List ℕ) (e : Result (ℕ × Place) Refusal) (g h : Fields → ℕ → Result (Fields × ℕ) Refusal)
+    → ((id : ℕ) (p : Place) → e ≡ Ok (id, p) → g (put f id p) (end_of p) ≡ h (put f id p) (end_of p))
     → walk_in f s e g ≡ walk_in f s e h
 unfolding walk_in
-walk_in-agree f s (field.Refused r) g h a = refl
-walk_in-agree f s (field.At id p) g h a =
-    ap (λ (w : Walked). cond (eqb id 0)
-    (cond (ends_right s p) (walked.Ended f (end_of p)) (walked.Refused (WrongSize (begin p)))) w) (a id p refl)
+walk_in-agree f s (Err r) g h a = refl
+walk_in-agree f s (Ok (id, p)) g h a =
+    ap (λ (w : Result (Fields × ℕ) Refusal). cond (eqb id 0)
+    (cond (ends_right s p) (Ok (f, end_of p)) (Err (WrongSize (begin p)))) w) (a id p refl)
 
 pub walk_enough : (k m : ℕ) (f : Fields) (s : List ℕ) (at : ℕ) → length s ≤ k + at → length s ≤ m + at
     → walk k f s at ≡ walk m f s at
@@ -212,21 +208,21 @@ pub record IsEnded (s : List ℕ) (at : ℕ) (f : Fields) (end : ℕ) : Type 0 w
   pub within : end ≤ length s
 
 -- nothing is said of a refusal
-abbrev Ended : List ℕ → ℕ → Walked → Type 0
-Ended s at (walked.Ended f end) = IsEnded s at f end
-Ended s at (walked.Refused r) = 0 ≤ 0
+abbrev Ended : List ℕ → ℕ → Result (Fields × ℕ) Refusal → Type 0
+Ended s at (Ok (f, end)) = IsEnded s at f end
+Ended s at (Err r) = 0 ≤ 0
 
-ended_before : (s : List ℕ) (at n : ℕ) (w : Walked) → at ≤ n → Ended s n w → Ended s at w
-ended_before s at n (walked.Ended f end) h d = record { placed = d.placed; far = omega arith; within = d.within }
-ended_before s at n (walked.Refused r) h d = d
+ended_before : (s : List ℕ) (at n : ℕ) (w : Result (Fields × ℕ) Refusal) → at ≤ n → Ended s n w → Ended s at w
+ended_before s at n (Ok (f, end)) h d = record { placed = d.placed; far = omega arith; within = d.within }
+ended_before s at n (Err r) h d = d
 
-walk_in_ended : (f : Fields) (s : List ℕ) (at : ℕ) (e : Field) (rest : Fields → ℕ → Walked) → field_here f s at ≡ e
+walk_in_ended : (f : Fields) (s : List ℕ) (at : ℕ) (e : Result (ℕ × Place) Refusal) (rest : Fields → ℕ → Result (Fields × ℕ) Refusal) → field_here f s at ≡ e
     → Placed f at
     → ((g : Fields) (n : ℕ) → Placed g n → Ended s n (rest g n))
     → Ended s at (walk_in f s e rest)
 unfolding walk_in
-walk_in_ended f s at (field.Refused r) rest q d h = omega arith
-walk_in_ended f s at (field.At id p) rest q d h =
+walk_in_ended f s at (Err r) rest q d h = omega arith
+walk_in_ended f s at (Ok (id, p)) rest q d h =
     let x = field_here_stands f s at id p q in
     let l : at ≤ end_of p = omega arith in
     by_bool (eqb id 0)
@@ -248,6 +244,6 @@ walk_ended (suc k) f s at d =
     (λ g n x. walk_ended k g s n x)
 
 pub walk_ends : (k : ℕ) (f : Fields) (s : List ℕ) (at : ℕ) (g : Fields) (end : ℕ) → Placed f at
-    → walk k f s at ≡ walked.Ended g end
+    → walk k f s at ≡ Ok (g, end)
     → IsEnded s at g end
 walk_ends k f s at g end d e = rw e at (walk_ended k f s at d)

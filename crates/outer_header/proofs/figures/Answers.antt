@@ -1,24 +1,27 @@
 -- `outer_header::figures` meets its contract. Assumes nothing.
 use mathlib.Core.Path.{sym, ◌∙◌}
+use Rattle.std.proofs.lemmas.Result.{err_from_is_err_and}
 use Rattle.outer_header.specs.Kdbx4Header.{figures_in, figures}
 use Rattle.outer_header.proofs.figures.Goals as goal
 
+pub returns-in_err-kdf : goal.returns-in_err-kdf
+unfolding figures figures_in
+returns-in_err-kdf c =
+    let r = err_from_is_err_and c.from_residual.result c.from_residual.ensures.1 in
+    rw (r.1, r.2, sym c.read.ensures.value ∙ c.in_err-kdf.was)
+
 pub returns-in-Refused : goal.returns-in-Refused
 unfolding figures figures_in
-returns-in-Refused c = rw (sym c.read.ensures.value ∙ c.in-Refused.is)
-
-pub returns-in-Refused-custom_of : goal.returns-in-Refused-custom_of
-unfolding figures figures_in
-returns-in-Refused-custom_of c =
+returns-in-Refused c =
     rw (
-      sym c.read.ensures.value ∙ c.in-Asks.is,
-      sym c.custom_of.ensures ∙ c.in-Refused-custom_of.is,
+      sym c.read.ensures.value ∙ c.in_ok-kdf.was,
+      sym c.custom_of.ensures ∙ c.in-Refused.is,
     )
 
 pub returns-in-Accepted : goal.returns-in-Accepted
 unfolding figures figures_in
 returns-in-Accepted c =
     rw (
-      sym c.read.ensures.value ∙ c.in-Asks.is,
+      sym c.read.ensures.value ∙ c.in_ok-kdf.was,
       sym c.custom_of.ensures ∙ c.in-Accepted.is,
     )

@@ -21,7 +21,7 @@ use lib.ListN.{length, get_or, drop, drop_of_length-le}
 use lib.Seq.{drop-cons}
 use Rattle.words.proofs.Laws.Cases.{by_bool}
 use Rattle.slices.proofs.Laws.Same.{eqb_or_xor}
-use Rattle.pkcs7.specs.declared.Padding.TheVariants.{Of, Wrong}
+use Rattle.std.specs.Prelude.{Some, None}
 use Rattle.pkcs7.specs.Pkcs7.{all_are, padding_by, padding}
 use Rattle.pkcs7.specs.Answer.{answer, wrong_bits}
 
@@ -78,16 +78,16 @@ unfolding padding padding_by
 padding_piece s p e q = rw (e, q)
 
 module _ (s : List ℕ) (p : ℕ) (e : length s ≡ 16) (q : get_or s 15 0 ≡ p) where
-  pub answer-zero : p ≡ 0 → Wrong ≡ answer (padding s)
+  pub answer-zero : p ≡ 0 → None ≡ answer (padding s)
   unfolding answer
   answer-zero z = rw (padding_piece s p e q, eq-eqb p 0 z)
 
-  pub answer_large : (p ≡ 0 → ⊥) → 16 < p → Wrong ≡ answer (padding s)
+  pub answer_large : (p ≡ 0 → ⊥) → 16 < p → None ≡ answer (padding s)
   unfolding answer
   answer_large n l = rw (padding_piece s p e q, ne_eqb p 0 n, lt-ltb 16 p l)
 
   pub answer-checked : (p ≡ 0 → ⊥) → p ≤ 16 → (t : Bool) → t ≡ checked_from p 0 s
-      → cond t (Of p) Wrong ≡ answer (padding s)
+      → cond t (Some p) None ≡ answer (padding s)
   unfolding answer
   answer-checked n l true h =
       rw (padding_piece s p e q, ne_eqb p 0 n, le-ltb 16 p l, ← checked_from_all p s e l, ← h, ne_eqb p 0 n)
@@ -95,7 +95,7 @@ module _ (s : List ℕ) (p : ℕ) (e : length s ≡ 16) (q : get_or s 15 0 ≡ p
       rw (padding_piece s p e q, ne_eqb p 0 n, le-ltb 16 p l, ← checked_from_all p s e l, ← h)
 
 -- an answer with a length tells it
-pub answer_of : (n p : ℕ) → answer n ≡ Of p → (n ≡ p) × (1 ≤ p)
+pub answer_of : (n p : ℕ) → answer n ≡ Some p → (n ≡ p) × (1 ≤ p)
 unfolding answer
 answer_of n p h =
     by_bool (eqb n 0) (λ t. let z : ◌≡◌ {A = ℕ} 0 1 = cc (rw t at h) in absurd (omega arith))
@@ -106,7 +106,7 @@ answer_of n p h =
     low (suc k) z = omega arith
 
 -- the other answer says that there is no padding
-pub answer_wrong : (n : ℕ) → answer n ≡ Wrong → n ≡ 0
+pub answer_wrong : (n : ℕ) → answer n ≡ None → n ≡ 0
 unfolding answer
 answer_wrong n h =
     by_bool (eqb n 0) (λ t. eqb-true n 0 t) (λ f. let z : ◌≡◌ {A = ℕ} 0 1 = cc (rw f at h) in absurd (omega arith))

@@ -12,24 +12,23 @@ use lib.ListN.{length}
 use borrow.Author.Tests.{leb-true}
 use Rattle.words.specs.Endian.{le}
 use Rattle.words.specs.Size.{int32}
-use Rattle.words.specs.declared.le.Size.{Size}
-use Rattle.words.specs.declared.le.Size.TheVariants.{Of, Negative}
+use Rattle.std.specs.Prelude.{Option, Some, None, Result, Ok, Err}
 use Rattle.words.proofs.Laws.Cases.{by_bool}
 use Rattle.fields.specs.declared.SizeRule.{SizeRule}
-use Rattle.fields.specs.declared.Field.{Field}
-use Rattle.fields.specs.declared.Field.TheVariants as field
+use Rattle.refusals.specs.declared.Refusal.{Refusal}
+use Rattle.fields.specs.declared.Place.{Place}
 use Rattle.fields.specs.Fields.{fits, value_at, field_at}
 use Rattle.places.specs.Places.{LiesIn}
 
 -- nothing is said of a field that is found
-abbrev pub Lies : ℕ → Field → Type 0
-Lies n (field.At id p) = 0 ≤ 0
-Lies n (field.Refused r) = LiesIn n r
+abbrev pub Lies : ℕ → Result (ℕ × Place) Refusal → Type 0
+Lies n (Ok (id, p)) = 0 ≤ 0
+Lies n (Err r) = LiesIn n r
 
-value_at_lies : (rule : SizeRule) (s : List ℕ) (at : ℕ) (z : Size) → at < length s → Lies (length s) (value_at rule s at z)
+value_at_lies : (rule : SizeRule) (s : List ℕ) (at : ℕ) (z : Option ℕ) → at < length s → Lies (length s) (value_at rule s at z)
 unfolding value_at
-value_at_lies rule s at Negative h = h
-value_at_lies rule s at (Of n) h =
+value_at_lies rule s at None h = h
+value_at_lies rule s at (Some n) h =
     by_bool (fits rule n)
     (λ t. by_bool (leb n (length s - (at + 5))) (λ u. rw (t, u) (omega arith)) (λ u. rw (t, u) refl))
     (λ t. rw t h)

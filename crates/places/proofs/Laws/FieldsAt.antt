@@ -21,15 +21,12 @@ use lib.ListN.{length, get_or, take, drop}
 use borrow.Author.Tests.{eqb-true}
 use Rattle.words.specs.Endian.{le}
 use Rattle.words.specs.Size.{int32}
-use Rattle.words.specs.declared.le.Size.{Size}
-use Rattle.words.specs.declared.le.Size.TheVariants.{Of, Negative}
+use Rattle.std.specs.Prelude.{Option, Some, None, Result, Ok, Err}
 use Rattle.words.proofs.Laws.Cases.{by_bool}
 use Rattle.refusals.specs.declared.Refusal.{Refusal}
 use Rattle.refusals.specs.declared.Refusal.TheVariants.{CutShort, WrongSize, Repeated, UnknownField}
 use Rattle.fields.specs.declared.Place.{Place}
 use Rattle.fields.specs.declared.SizeRule.{SizeRule}
-use Rattle.fields.specs.declared.Field.{Field}
-use Rattle.fields.specs.declared.Field.TheVariants as field
 use Rattle.fields.specs.Fields.{bytes_at, end_of, nowhere, given, begin, fits, value_at, field_at}
 use Rattle.fields.proofs.Laws.Fields.{Stands}
 use Rattle.places.specs.Begins.{FieldAt, FieldOf, FieldAgain, WrongSized, ValueOf, InValue}
@@ -37,20 +34,20 @@ use Rattle.places.proofs.Laws.Sizes.{negative_never, of_same}
 
 -- the value of a field that is found has the size that stands there, and the rule's
 pub record Sized (rule : SizeRule) (s : List ℕ) (at : ℕ) (p : Place) : Type 0 where
-  pub size_is : int32 (le 4 s (at + 1)) ≡ Of p.length
+  pub size_is : int32 (le 4 s (at + 1)) ≡ Some p.length
   pub fits_rule : fits rule p.length ≡ true
 
 -- what is said of a field at a place: P of a refusal, and its size where it is found
-abbrev pub Says : (Refusal → Type 0) → SizeRule → List ℕ → ℕ → Field → Type 0
-Says P rule s at (field.At id p) = Sized rule s at p
-Says P rule s at (field.Refused r) = P r
+abbrev pub Says : (Refusal → Type 0) → SizeRule → List ℕ → ℕ → Result (ℕ × Place) Refusal → Type 0
+Says P rule s at (Ok (id, p)) = Sized rule s at p
+Says P rule s at (Err r) = P r
 
 module _ (P : Refusal → Type 0) (rule : SizeRule) (s : List ℕ) (at : ℕ) (cut : P (CutShort (length s)))
     (size : WrongSized rule s at → P (WrongSize at)) where
-  value_at_says : (z : Size) → int32 (le 4 s (at + 1)) ≡ z → Says P rule s at (value_at rule s at z)
+  value_at_says : (z : Option ℕ) → int32 (le 4 s (at + 1)) ≡ z → Says P rule s at (value_at rule s at z)
   unfolding value_at
-  value_at_says Negative e = size (λ n q. absurd (negative_never n (sym e ∙ q)))
-  value_at_says (Of n) e =
+  value_at_says None e = size (λ n q. absurd (negative_never n (sym e ∙ q)))
+  value_at_says (Some n) e =
       by_bool (fits rule n)
       (λ t. by_bool (leb n (length s - (at + 5)))
       (λ u. rw (t, u) (record { size_is = e; fits_rule = t }))
@@ -73,10 +70,10 @@ module _ (P : Refusal → Type 0) (rule : SizeRule) (s : List ℕ) (at : ℕ) (c
 pub record Met (s : List ℕ) (from id : ℕ) (p : Place) : Type 0 where
   pub field : FieldOf s from id (begin p)
   pub start_is : p.start ≡ begin p + 5
-  pub size_is : int32 (le 4 s (begin p + 1)) ≡ Of p.length
+  pub size_is : int32 (le 4 s (begin p + 1)) ≡ Some p.length
 
 pub met : (s : List ℕ) (from at id : ℕ) (p : Place) → FieldAt s from at → Stands s at id p
-    → int32 (le 4 s (at + 1)) ≡ Of p.length
+    → int32 (le 4 s (at + 1)) ≡ Some p.length
     → Met s from id p
 met s from at id p h x e =
     let b : at ≡ begin p = omega (arith, x.start_is) in
@@ -86,7 +83,7 @@ met s from at id p h x e =
         id_is = subst (λ (n : ℕ). get_or s n 0 ≡ id) b (sym x.id_is);
       };
       start_is = omega (arith, x.start_is);
-      size_is = subst (λ (n : ℕ). int32 (le 4 s (n + 1)) ≡ Of p.length) b e;
+      size_is = subst (λ (n : ℕ). int32 (le 4 s (n + 1)) ≡ Some p.length) b e;
     }
 
 module _ (s : List ℕ) (from : ℕ) where

@@ -20,20 +20,14 @@ use Rattle.refusals.specs.declared.Outcome.{Outcome}
 use Rattle.refusals.specs.declared.Outcome.TheVariants as outcome
 use Rattle.fields.specs.Fields.{bytes_at, end_of, begin}
 use Rattle.fields.specs.declared.Place.{Place}
-use Rattle.fields.specs.declared.Field.{Field}
-use Rattle.fields.specs.declared.Field.TheVariants as field
+use Rattle.refusals.specs.declared.Refusal.{Refusal}
 use Rattle.ciphers.specs.Ciphers.{cipher_of, nonce_length}
 use Rattle.ciphers.specs.declared.Cipher.{Cipher}
-use Rattle.ciphers.specs.declared.Identified.{Identified}
-use Rattle.ciphers.specs.declared.Identified.TheVariants.{As, Unlisted as NoCipher}
+use Rattle.std.specs.Prelude.{Option, Some, None, Result, Ok, Err}
 use Rattle.kdf_dictionary.specs.KdfDictionary.{kdf_of}
-use Rattle.kdf_dictionary.specs.declared.Reading.{Reading as KdfReading}
-use Rattle.kdf_dictionary.specs.declared.Reading.TheVariants as kdf
+use Rattle.kdf_dictionary.specs.declared.Kdf.{Kdf}
+use Rattle.outer_header.specs.declared.Header.{Header}
 use Rattle.outer_header.specs.declared.walk.Fields.{Fields}
-use Rattle.outer_header.specs.declared.walk.Walked.{Walked}
-use Rattle.outer_header.specs.declared.walk.Walked.TheVariants as walked
-use Rattle.outer_header.specs.declared.Reading.{Reading}
-use Rattle.outer_header.specs.declared.Reading.TheVariants as read
 use Rattle.outer_header.specs.Kdbx4Header.{
   listed,
   size_rule,
@@ -77,21 +71,21 @@ put_before f id p at d h =
     }
 
 -- what is said of a walk: of its refusal, and of the dictionaries where it ends
-abbrev WalkLies : List ℕ → Walked → Type 0
-WalkLies s (walked.Ended f end) = Before f (length s - 1)
-WalkLies s (walked.Refused r) = LiesIn (length s) r
+abbrev WalkLies : List ℕ → Result (Fields × ℕ) Refusal → Type 0
+WalkLies s (Ok (f, end)) = Before f (length s - 1)
+WalkLies s (Err r) = LiesIn (length s) r
 
 before_further : (f : Fields) (at n : ℕ) → at ≤ n → Before f at → Before f n
 before_further f at n h d = record { kdf_le = omega (arith, d.kdf_le); custom_le = omega (arith, d.custom_le) }
 
-walk_in_lies : (f : Fields) (s : List ℕ) (at : ℕ) (e : Field) (rest : Fields → ℕ → Walked) → field_here f s at ≡ e
+walk_in_lies : (f : Fields) (s : List ℕ) (at : ℕ) (e : Result (ℕ × Place) Refusal) (rest : Fields → ℕ → Result (Fields × ℕ) Refusal) → field_here f s at ≡ e
     → fields.Lies (length s) e
     → Before f at
     → ((g : Fields) (n : ℕ) → Before g n → WalkLies s (rest g n))
     → WalkLies s (walk_in f s e rest)
 unfolding walk_in
-walk_in_lies f s at (field.Refused r) rest q l d h = l
-walk_in_lies f s at (field.At id p) rest q l d h =
+walk_in_lies f s at (Err r) rest q l d h = l
+walk_in_lies f s at (Ok (id, p)) rest q l d h =
     let x = field_here_stands f s at id p q in
     by_bool (eqb id 0)
     (λ t. by_bool (ends_right s p)
@@ -114,25 +108,25 @@ bytes_end : (s : List ℕ) (p : Place) → end_of p ≤ length s - 1 → 0 < len
 bytes_end s p h k = simp (length-take, length-drop) (omega arith)
 
 -- nothing is said of an accepted header
-abbrev Lies : ℕ → Reading → Type 0
-Lies n (read.Header h) = 0 ≤ 0
-Lies n (read.Refused r) = LiesIn n r
+abbrev Lies : ℕ → Result Header Refusal → Type 0
+Lies n (Ok h) = 0 ≤ 0
+Lies n (Err r) = LiesIn n r
 
 module _ (s : List ℕ) (f : Fields) (minor end : ℕ) (e : IsEnded s 12 f end) (d : Before f (length s - 1)) where
   some : 0 < length s
   some = omega (arith, e.far, e.within)
 
-  figures_in_lies : (c : Cipher) (k : KdfReading) (o : Outcome) → kdfs.Lies (length s) k → kdfs.LiesOutcome (length s) o
+  figures_in_lies : (c : Cipher) (k : Result Kdf Refusal) (o : Outcome) → kdfs.Lies (length s) k → kdfs.LiesOutcome (length s) o
       → Lies (length s) (figures_in f minor end c k o)
   unfolding figures_in
-  figures_in_lies c (kdf.Refused r) o x y = x
-  figures_in_lies c (kdf.Asks k) (outcome.Refused r) x y = y
-  figures_in_lies c (kdf.Asks k) outcome.Accepted x y = omega arith
+  figures_in_lies c (Err r) o x y = x
+  figures_in_lies c (Ok k) (outcome.Refused r) x y = y
+  figures_in_lies c (Ok k) outcome.Accepted x y = omega arith
 
-  identified_lies : (i : Identified) → Lies (length s) (identified s f minor end i)
+  identified_lies : (i : Option Cipher) → Lies (length s) (identified s f minor end i)
   unfolding identified figures
-  identified_lies NoCipher = begin_lt f.cipher end (length s) e.placed.cipher_le e.within some
-  identified_lies (As c) =
+  identified_lies None = begin_lt f.cipher end (length s) e.placed.cipher_le e.within some
+  identified_lies (Some c) =
       by_bool (eqb (le 4 s f.compression.start) 0)
       (λ t. by_bool (eqb f.nonce.length (nonce_length c))
       (λ u. rw (t, u) (figures_in_lies c (kdf_of s f.kdf) (custom_of s f.custom)
@@ -148,11 +142,11 @@ module _ (s : List ℕ) (f : Fields) (minor end : ℕ) (e : IsEnded s 12 f end) 
       (λ t. rw t (identified_lies (cipher_of (bytes_at s f.cipher))))
       (λ t. rw t (omega (arith, e.far, e.within)))
 
-body_before : (s : List ℕ) (minor : ℕ) (w : Walked) → walk (length s) no_fields s 12 ≡ w → WalkLies s w
+body_before : (s : List ℕ) (minor : ℕ) (w : Result (Fields × ℕ) Refusal) → walk (length s) no_fields s 12 ≡ w → WalkLies s w
     → Lies (length s) (judged_in s minor w)
 unfolding judged_in
-body_before s minor (walked.Refused r) q l = l
-body_before s minor (walked.Ended f end) q l =
+body_before s minor (Err r) q l = l
+body_before s minor (Ok (f, end)) q l =
     judged_lies s f minor end (walk_ends (length s) no_fields s 12 f end (no_fields-placed 12 (omega arith)) q) l
 
 body_lies : (s : List ℕ) (minor : ℕ) → Lies (length s) (body s minor)

@@ -24,20 +24,14 @@ use Rattle.refusals.specs.declared.Outcome.{Outcome}
 use Rattle.refusals.specs.declared.Outcome.TheVariants as outcome
 use Rattle.fields.specs.Fields.{bytes_at, end_of, given, begin, fits}
 use Rattle.fields.specs.declared.Place.{Place}
-use Rattle.fields.specs.declared.Field.{Field}
-use Rattle.fields.specs.declared.Field.TheVariants as field
+use Rattle.refusals.specs.declared.Refusal.{Refusal}
 use Rattle.ciphers.specs.Ciphers.{cipher_of, nonce_length}
 use Rattle.ciphers.specs.declared.Cipher.{Cipher}
-use Rattle.ciphers.specs.declared.Identified.{Identified}
-use Rattle.ciphers.specs.declared.Identified.TheVariants.{As, Unlisted as NoCipher}
+use Rattle.std.specs.Prelude.{Option, Some, None, Result, Ok, Err}
 use Rattle.kdf_dictionary.specs.KdfDictionary.{kdf_of}
-use Rattle.kdf_dictionary.specs.declared.Reading.{Reading as KdfReading}
-use Rattle.kdf_dictionary.specs.declared.Reading.TheVariants as kdf
+use Rattle.kdf_dictionary.specs.declared.Kdf.{Kdf}
+use Rattle.outer_header.specs.declared.Header.{Header}
 use Rattle.outer_header.specs.declared.walk.Fields.{Fields}
-use Rattle.outer_header.specs.declared.walk.Walked.{Walked}
-use Rattle.outer_header.specs.declared.walk.Walked.TheVariants as walked
-use Rattle.outer_header.specs.declared.Reading.{Reading}
-use Rattle.outer_header.specs.declared.Reading.TheVariants as read
 use Rattle.outer_header.specs.Kdbx4Header.{
   listed,
   size_rule,
@@ -128,9 +122,9 @@ record Ends (s : List ℕ) (f : Fields) (end : ℕ) : Type 0 where
   known : Knowns s f (end_field end)
   end_field_is : FieldOf s 12 0 (end_field end)
 
-abbrev WalkSays : List ℕ → Walked → Type 0
-WalkSays s (walked.Ended f end) = Ends s f end
-WalkSays s (walked.Refused r) = PointsTo s r
+abbrev WalkSays : List ℕ → Result (Fields × ℕ) Refusal → Type 0
+WalkSays s (Ok (f, end)) = Ends s f end
+WalkSays s (Err r) = PointsTo s r
 
 end_size : (id n : ℕ) → fits (size_rule id) n ≡ true → id ≡ 0 → n ≡ 4
 unfolding fits size_rule
@@ -146,15 +140,15 @@ end_wrong s p n b e q =
     subst (λ (l : List ℕ). same (bytes_at s p) l ≡ true) (i ∙ q) (same_refl (bytes_at s p)) in
     let z : ◌≡◌ {A = ℕ} 0 1 = cc in omega arith
 
-walk_in_says : (f : Fields) (s : List ℕ) (at : ℕ) (e : Field) (rest : Fields → ℕ → Walked) → field_here f s at ≡ e
+walk_in_says : (f : Fields) (s : List ℕ) (at : ℕ) (e : Result (ℕ × Place) Refusal) (rest : Fields → ℕ → Result (Fields × ℕ) Refusal) → field_here f s at ≡ e
     → Says (PointsTo s) (size_rule (get_or s at 0)) s at e
     → FieldAt s 12 at
     → Knowns s f at
     → ((g : Fields) (n : ℕ) → FieldAt s 12 n → Knowns s g n → WalkSays s (rest g n))
     → WalkSays s (walk_in f s e rest)
 unfolding walk_in
-walk_in_says f s at (field.Refused r) rest q l a k h = l
-walk_in_says f s at (field.At id p) rest q l a k h =
+walk_in_says f s at (Err r) rest q l a k h = l
+walk_in_says f s at (Ok (id, p)) rest q l a k h =
     let x = field_here_stands f s at id p q in
     let m = met s 12 at id p a x l.size_is in
     by_bool (eqb id 0)
@@ -184,9 +178,9 @@ walk_says (suc k) f s at a d =
     (λ g n b x. walk_says k g s n b x)
 
 -- nothing is said of an accepted header
-abbrev Points : List ℕ → Reading → Type 0
-Points s (read.Header h) = Unit
-Points s (read.Refused r) = PointsTo s r
+abbrev Points : List ℕ → Result Header Refusal → Type 0
+Points s (Ok h) = Unit
+Points s (Err r) = PointsTo s r
 
 -- all fields but the custom dictionary are given
 record Complete (f : Fields) : Type 0 where
@@ -205,20 +199,20 @@ complete_given f e =
     record { cipher = a.0; compression = b.0; nonce = d.0; kdf = d.1 }
 
 module _ (s : List ℕ) (f : Fields) (minor end : ℕ) (e : Ends s f end) where
-  figures_in_points : (c : Cipher) (k : KdfReading) (o : Outcome) → kdfs.Points s k → kdfs.PointsOutcome s o
+  figures_in_points : (c : Cipher) (k : Result Kdf Refusal) (o : Outcome) → kdfs.Points s k → kdfs.PointsOutcome s o
       → Points s (figures_in f minor end c k o)
   unfolding figures_in
-  figures_in_points c (kdf.Refused r) o x y = x
-  figures_in_points c (kdf.Asks k) (outcome.Refused r) x y = y
-  figures_in_points c (kdf.Asks k) outcome.Accepted x y = tt
+  figures_in_points c (Err r) o x y = x
+  figures_in_points c (Ok k) (outcome.Refused r) x y = y
+  figures_in_points c (Ok k) outcome.Accepted x y = tt
 
-  identified_points : (i : Identified) → cipher_of (bytes_at s f.cipher) ≡ i → Complete f
+  identified_points : (i : Option Cipher) → cipher_of (bytes_at s f.cipher) ≡ i → Complete f
       → Points s (identified s f minor end i)
   unfolding identified figures
-  identified_points NoCipher q g =
+  identified_points None q g =
       PointsTo.cipher (begin f.cipher)
-      (value_of s 2 f.cipher (λ (v : List ℕ). cipher_of v ≡ NoCipher) (e.known.cipher g.cipher).met q)
-  identified_points (As c) q g =
+      (value_of s 2 f.cipher (λ (v : List ℕ). cipher_of v ≡ None) (e.known.cipher g.cipher).met q)
+  identified_points (Some c) q g =
       let m = (e.known.compression g.compression).met in
       let n = (e.known.nonce g.nonce).met in
       by_bool (eqb (le 4 s f.compression.start) 0)
@@ -228,7 +222,7 @@ module _ (s : List ℕ) (f : Fields) (minor end : ℕ) (e : Ends s f end) where
       (kdfs.custom_of_points s f.custom (λ h. (e.known.custom h).met))))
       (λ u. rw (t, u) (PointsTo.nonce (begin f.nonce) f.nonce.length (begin f.cipher) c n.field
       n.size_is
-      (value_of s 2 f.cipher (λ (v : List ℕ). cipher_of v ≡ As c) (e.known.cipher g.cipher).met q)
+      (value_of s 2 f.cipher (λ (v : List ℕ). cipher_of v ≡ Some c) (e.known.cipher g.cipher).met q)
       (eqb-false f.nonce.length (nonce_length c) u))))
       (λ t. rw t (PointsTo.compression (begin f.compression) m.field
       (subst (λ (i : ℕ). le 4 s i ≡ 0 → ⊥) m.start_is (eqb-false (le 4 s f.compression.start) 0 t))))
@@ -240,10 +234,10 @@ module _ (s : List ℕ) (f : Fields) (minor end : ℕ) (e : Ends s f end) where
       (λ t. rw t (identified_points (cipher_of (bytes_at s f.cipher)) refl (complete_given f t)))
       (λ t. rw t (PointsTo.absent (end_field end) e.end_field_is))
 
-judged_in_points : (s : List ℕ) (minor : ℕ) (w : Walked) → WalkSays s w → Points s (judged_in s minor w)
+judged_in_points : (s : List ℕ) (minor : ℕ) (w : Result (Fields × ℕ) Refusal) → WalkSays s w → Points s (judged_in s minor w)
 unfolding judged_in
-judged_in_points s minor (walked.Refused r) l = l
-judged_in_points s minor (walked.Ended f end) l = judged_points s f minor end l
+judged_in_points s minor (Err r) l = l
+judged_in_points s minor (Ok (f, end)) l = judged_points s f minor end l
 
 body_points : (s : List ℕ) (minor : ℕ) → Points s (body s minor)
 unfolding body

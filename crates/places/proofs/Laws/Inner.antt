@@ -14,8 +14,8 @@ use Rattle.words.proofs.Laws.Cases.{by_bool}
 use Rattle.refusals.specs.Limits.{payload_limit}
 use Rattle.fields.specs.Fields.{end_of, given}
 use Rattle.fields.specs.declared.Place.{Place}
-use Rattle.fields.specs.declared.Field.{Field}
-use Rattle.fields.specs.declared.Field.TheVariants as field
+use Rattle.std.specs.Prelude.{Result, Ok, Err}
+use Rattle.refusals.specs.declared.Refusal.{Refusal}
 use Rattle.inner_header.specs.InnerHeader.{
   Fields,
   no_fields,
@@ -40,10 +40,7 @@ use Rattle.inner_header.specs.InnerHeader.{
   attachment_of,
   attachment,
 }
-use Rattle.inner_header.specs.declared.Read.{Read}
-use Rattle.inner_header.specs.declared.Read.TheVariants as read
-use Rattle.inner_header.specs.declared.Attachment.{Attachment}
-use Rattle.inner_header.specs.declared.Attachment.TheVariants as attached
+use Rattle.inner_header.specs.declared.Inner.{Inner}
 use Rattle.inner_header.proofs.Laws.Walk.{field_of_stands}
 use Rattle.places.specs.Places.{LiesIn}
 use Rattle.places.proofs.Laws.Fields as fields
@@ -67,15 +64,15 @@ put_le : (f : Fields) (id : ℕ) (p : Place) (at n : ℕ) → f.algorithm.start 
 unfolding put
 put_le f id p at n d h l = either (eqb id 1) p f.algorithm n l (omega arith)
 
-walk_in_lies : (f : Fields) (s : List ℕ) (at : ℕ) (e : Field) (rest : Fields → ℕ → Walked)
+walk_in_lies : (f : Fields) (s : List ℕ) (at : ℕ) (e : Result (ℕ × Place) Refusal) (rest : Fields → ℕ → Walked)
     → field_of f.algorithm f.key s at ≡ e
     → fields.Lies (length s) e
     → f.algorithm.start ≤ at
     → ((g : Fields) (n : ℕ) → g.algorithm.start ≤ n → WalkLies s (rest g n))
     → WalkLies s (walk_in f e rest)
 unfolding walk_in
-walk_in_lies f s at (field.Refused r) rest q l d h = l
-walk_in_lies f s at (field.At id p) rest q l d h =
+walk_in_lies f s at (Err r) rest q l d h = l
+walk_in_lies f s at (Ok (id, p)) rest q l d h =
     let x = field_of_stands f.algorithm f.key s at id p q in
     by_bool (eqb id 0)
     (λ t. rw t (record {
@@ -120,13 +117,13 @@ opened_lies s =
     (λ t. rw t refl)
 
 -- nothing is said of what is accepted
-abbrev ReadLies : ℕ → Read → Type 0
-ReadLies n (read.Header h) = 0 ≤ 0
-ReadLies n (read.Refused r) = LiesIn n r
+abbrev ReadLies : ℕ → Result Inner Refusal → Type 0
+ReadLies n (Ok h) = 0 ≤ 0
+ReadLies n (Err r) = LiesIn n r
 
-abbrev AttachmentLies : ℕ → Attachment → Type 0
-AttachmentLies n (attached.At flags p) = 0 ≤ 0
-AttachmentLies n (attached.Refused r) = LiesIn n r
+abbrev AttachmentLies : ℕ → Result (ℕ × Place) Refusal → Type 0
+AttachmentLies n (Ok (flags, p)) = 0 ≤ 0
+AttachmentLies n (Err r) = LiesIn n r
 
 inner_of_lies : (s : List ℕ) (w : Walked) → WalkLies s w → ReadLies (length s) (inner_of s w)
 unfolding inner_of

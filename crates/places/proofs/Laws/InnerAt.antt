@@ -21,8 +21,8 @@ use Rattle.words.proofs.Laws.Cases.{by_bool}
 use Rattle.refusals.specs.Limits.{payload_limit}
 use Rattle.fields.specs.Fields.{end_of, given, begin, fits}
 use Rattle.fields.specs.declared.Place.{Place}
-use Rattle.fields.specs.declared.Field.{Field}
-use Rattle.fields.specs.declared.Field.TheVariants as field
+use Rattle.std.specs.Prelude.{Result, Ok, Err}
+use Rattle.refusals.specs.declared.Refusal.{Refusal}
 use Rattle.inner_header.specs.InnerHeader.{
   Fields,
   no_fields,
@@ -48,10 +48,7 @@ use Rattle.inner_header.specs.InnerHeader.{
   attachment_of,
   attachment,
 }
-use Rattle.inner_header.specs.declared.Read.{Read}
-use Rattle.inner_header.specs.declared.Read.TheVariants as read
-use Rattle.inner_header.specs.declared.Attachment.{Attachment}
-use Rattle.inner_header.specs.declared.Attachment.TheVariants as attached
+use Rattle.inner_header.specs.declared.Inner.{Inner}
 use Rattle.inner_header.proofs.Laws.Walk.{field_of_stands}
 use Rattle.places.specs.Begins.{FieldAt, FieldOf, FieldAgain, PointsToInner}
 use Rattle.places.proofs.Laws.FieldsAt.{
@@ -104,7 +101,7 @@ end_size : (id n : ℕ) → fits (rule_of id) n ≡ true → id ≡ 0 → n ≡ 
 unfolding fits rule_of
 end_size id n h e = eqb-true n 0 (rw e at h)
 
-walk_in_says : (f : Fields) (s : List ℕ) (at : ℕ) (e : Field) (rest : Fields → ℕ → Walked)
+walk_in_says : (f : Fields) (s : List ℕ) (at : ℕ) (e : Result (ℕ × Place) Refusal) (rest : Fields → ℕ → Walked)
     → field_of f.algorithm f.key s at ≡ e
     → Says (PointsToInner s) (rule_of (get_or s at 0)) s at e
     → FieldAt s 0 at
@@ -112,8 +109,8 @@ walk_in_says : (f : Fields) (s : List ℕ) (at : ℕ) (e : Field) (rest : Fields
     → ((g : Fields) (n : ℕ) → FieldAt s 0 n → Knowns s g n → WalkSays s (rest g n))
     → WalkSays s (walk_in f e rest)
 unfolding walk_in
-walk_in_says f s at (field.Refused r) rest q l a k h = l
-walk_in_says f s at (field.At id p) rest q l a k h =
+walk_in_says f s at (Err r) rest q l a k h = l
+walk_in_says f s at (Ok (id, p)) rest q l a k h =
     let x = field_of_stands f.algorithm f.key s at id p q in
     let m = met s 0 at id p a x l.size_is in
     by_bool (eqb id 0)
@@ -171,13 +168,13 @@ opened_says s =
     (λ t. rw t PointsToInner.too_long)
 
 -- nothing is said of what is accepted
-abbrev ReadPoints : List ℕ → Read → Type 0
-ReadPoints s (read.Header h) = Unit
-ReadPoints s (read.Refused r) = PointsToInner s r
+abbrev ReadPoints : List ℕ → Result Inner Refusal → Type 0
+ReadPoints s (Ok h) = Unit
+ReadPoints s (Err r) = PointsToInner s r
 
-abbrev AttachmentPoints : List ℕ → Attachment → Type 0
-AttachmentPoints s (attached.At flags p) = Unit
-AttachmentPoints s (attached.Refused r) = PointsToInner s r
+abbrev AttachmentPoints : List ℕ → Result (ℕ × Place) Refusal → Type 0
+AttachmentPoints s (Ok (flags, p)) = Unit
+AttachmentPoints s (Err r) = PointsToInner s r
 
 inner_of_points : (s : List ℕ) (w : Walked) → WalkSays s w → ReadPoints s (inner_of s w)
 unfolding inner_of

@@ -18,8 +18,7 @@ use lib.ListN.{length, get_or, take, drop, length-take, length-drop, get_or-eq_d
 use borrow.Author.Tests.{eqb-true, eqb-false, leb-true, leb-false, ltb-true, ltb-false}
 use Rattle.words.specs.Endian.{le}
 use Rattle.words.specs.Size.{int32}
-use Rattle.words.specs.declared.le.Size.{Size}
-use Rattle.words.specs.declared.le.Size.TheVariants.{Of, Negative}
+use Rattle.std.specs.Prelude.{Option, Some, None, Result, Ok, Err}
 use Rattle.words.proofs.Laws.Cases.{by_bool}
 use Rattle.slices.specs.Same.{same}
 use Rattle.slices.proofs.Laws.Same.{same_true}
@@ -39,12 +38,10 @@ use Rattle.dictionary.specs.Dictionary.{
   search_from,
 }
 use Rattle.dictionary.specs.declared.Item.{Item}
-use Rattle.dictionary.specs.declared.Entry.{Entry}
-use Rattle.dictionary.specs.declared.Entry.TheVariants as entry
-use Rattle.dictionary.specs.declared.Verdict.{Verdict}
-use Rattle.dictionary.specs.declared.Verdict.TheVariants as verdict_is
-use Rattle.dictionary.specs.declared.Found.{Found}
-use Rattle.dictionary.specs.declared.Found.TheVariants as found
+use Rattle.dictionary.specs.declared.Fault.TheVariants as fault
+use Rattle.dictionary.specs.declared.Fault.{Fault}
+use Rattle.dictionary.specs.declared.Value.{Value}
+use Rattle.refusals.specs.declared.Refusal.{Refusal}
 use Rattle.dictionary.proofs.Laws.Entry.{entry_at_within}
 use Rattle.places.specs.Items.{SoundItem, ComeTo, ItemAt, ItemOf, ItemAgain, FaultAt}
 use Rattle.places.proofs.Laws.Sizes.{negative_never, of_same}
@@ -59,30 +56,30 @@ pub record Read (s : List ℕ) (at : ℕ) (i : Item) : Type 0 where
   pub next_is : next i ≡ at + 9 + sound.name_size + sound.value_size
 
 -- what is said of an entry at a place
-abbrev pub EntrySays : List ℕ → ℕ → Entry → Type 0
-EntrySays s at (entry.Item i) = Read s at i
-EntrySays s at entry.End = get_or s at 0 ≡ 0
-EntrySays s at (entry.Broken b) = FaultAt s b
+abbrev pub EntrySays : List ℕ → ℕ → Result (Option Item) ℕ → Type 0
+EntrySays s at (Ok (Some i)) = Read s at i
+EntrySays s at (Ok None) = get_or s at 0 ≡ 0
+EntrySays s at (Err b) = FaultAt s b
 
 -- the sizes of a sound item are those that stand there
-pub sound-value : (s : List ℕ) (at n : ℕ) (v : Size) (i : SoundItem s at) → int32 (le 4 s (at + 1)) ≡ Of n
+pub sound-value : (s : List ℕ) (at n : ℕ) (v : Option ℕ) (i : SoundItem s at) → int32 (le 4 s (at + 1)) ≡ Some n
     → int32 (le 4 s (at + 5 + n)) ≡ v
-    → v ≡ Of i.value_size
+    → v ≡ Some i.value_size
 sound-value s at n v i e q =
     let m : i.name_size ≡ n = of_same i.name_size n (sym i.name_is ∙ e) in
-    sym q ∙ subst (λ (k : ℕ). int32 (le 4 s (at + 5 + k)) ≡ Of i.value_size) m i.value_is
+    sym q ∙ subst (λ (k : ℕ). int32 (le 4 s (at + 5 + k)) ≡ Some i.value_size) m i.value_is
 
 module _ (s : List ℕ) (at : ℕ) (h : ItemAt s at) where
-  value_at_says : (n : ℕ) (v : Size) → at + 9 + n ≤ length s → int32 (le 4 s (at + 1)) ≡ Of n
+  value_at_says : (n : ℕ) (v : Option ℕ) → at + 9 + n ≤ length s → int32 (le 4 s (at + 1)) ≡ Some n
       → int32 (le 4 s (at + 5 + n)) ≡ v
       → EntrySays s at (value_at s at n v)
   unfolding value_at
-  value_at_says n Negative l e q =
-      FaultAt.item at h (λ i. negative_never i.value_size (sound-value s at n Negative i e q))
-  value_at_says n (Of v) l e q =
+  value_at_says n None l e q =
+      FaultAt.item at h (λ i. negative_never i.value_size (sound-value s at n None i e q))
+  value_at_says n (Some v) l e q =
       let name : (i : SoundItem s at) → i.name_size ≡ n = λ i. of_same i.name_size n (sym i.name_is ∙ e) in
       let value : (i : SoundItem s at) → v ≡ i.value_size =
-      λ i. of_same v i.value_size (sound-value s at n (Of v) i e q) in
+      λ i. of_same v i.value_size (sound-value s at n (Some v) i e q) in
       by_bool (ltb (length s - (at + 5 + n + 4)) v)
       (λ t. rw t (FaultAt.item at h (λ i.
       omega (arith, ltb-true (length s - (at + 5 + n + 4)) v t, i.within, name i, value i, l))))
@@ -105,10 +102,10 @@ module _ (s : List ℕ) (at : ℕ) (h : ItemAt s at) where
       (λ u. rw (t, u) (FaultAt.item at h (λ i.
       false≢true (sym u ∙ subst (λ (k : ℕ). size_fits_type (get_or s at 0) k ≡ true) (sym (value i)) i.fits_type)))))
 
-  name_at_says : (n : Size) → at + 5 ≤ length s → int32 (le 4 s (at + 1)) ≡ n → EntrySays s at (name_at s at n)
+  name_at_says : (n : Option ℕ) → at + 5 ≤ length s → int32 (le 4 s (at + 1)) ≡ n → EntrySays s at (name_at s at n)
   unfolding name_at
-  name_at_says Negative l e = FaultAt.item at h (λ i. negative_never i.name_size (sym e ∙ i.name_is))
-  name_at_says (Of n) l e =
+  name_at_says None l e = FaultAt.item at h (λ i. negative_never i.name_size (sym e ∙ i.name_is))
+  name_at_says (Some n) l e =
       by_bool (ltb (length s - (at + 5)) (n + 4))
       (λ t. rw t (FaultAt.item at h (λ i.
       let m : i.name_size ≡ n = of_same i.name_size n (sym i.name_is ∙ e) in
@@ -140,18 +137,18 @@ read_next : (s : List ℕ) (at : ℕ) (i : Item) → Read s at i → ComeTo s (n
 read_next s at i r = rw r.next_is (ComeTo.behind at r.begins.comes r.sound)
 
 -- the name of an item has its size, and stands behind five bytes
-name_length : (s : List ℕ) (at : ℕ) (i : Item) → entry_at s at ≡ entry.Item i → length (name_of s i) ≡ i.name_len
+name_length : (s : List ℕ) (at : ℕ) (i : Item) → entry_at s at ≡ Ok (Some i) → length (name_of s i) ≡ i.name_len
 name_length s at i p =
     let w = entry_at_within s at i p in
     simp (length-take, length-drop) (omega (arith, w.name_start, w.value_start, w.next_le))
 
-read_named : (s : List ℕ) (at : ℕ) (i : Item) → entry_at s at ≡ entry.Item i → Read s at i
+read_named : (s : List ℕ) (at : ℕ) (i : Item) → entry_at s at ≡ Ok (Some i) → Read s at i
     → ItemOf (name_of s i) s at
 read_named s at i p r =
     let l = name_length s at i p in
     record {
       begins = r.begins;
-      size_is = r.sound.name_is ∙ ap (λ (n : ℕ). Of n) (r.name_len ∙ sym l);
+      size_is = r.sound.name_is ∙ ap (λ (n : ℕ). Some n) (r.name_len ∙ sym l);
       name_is = ap₂ (λ (n k : ℕ). take n (drop k s)) l (sym (entry_at_within s at i p).name_start);
     }
 
@@ -162,12 +159,12 @@ record Former (s name : List ℕ) (stop : ℕ) : Type 0 where
   former : ItemOf name s before
 
 module _ (s name : List ℕ) (stop : ℕ) where
-  named_in_former : (at : ℕ) (e : Entry) (rest : ℕ → Bool) → entry_at s at ≡ e → EntrySays s at e → at < stop
+  named_in_former : (at : ℕ) (e : Result (Option Item) ℕ) (rest : ℕ → Bool) → entry_at s at ≡ e → EntrySays s at e → at < stop
       → ((n : ℕ) → ComeTo s n → rest n ≡ true → Former s name stop)
       → named_in s name e rest ≡ true
       → Former s name stop
   unfolding named_in
-  named_in_former at (entry.Item i) rest p r l h =
+  named_in_former at (Ok (Some i)) rest p r l h =
       by_bool (same (name_of s i) name)
       (λ t. rw t (λ q. record {
         before = at;
@@ -175,8 +172,8 @@ module _ (s name : List ℕ) (stop : ℕ) where
         former = subst (λ (n : List ℕ). ItemOf n s at) (same_true (name_of s i) name t) (read_named s at i p r);
       }))
       (λ t. rw t (h (next i) (read_next s at i r)))
-  named_in_former at entry.End rest p r l h = λ e. absurd (false≢true e)
-  named_in_former at (entry.Broken b) rest p r l h = λ e. absurd (false≢true e)
+  named_in_former at (Ok None) rest p r l h = λ e. absurd (false≢true e)
+  named_in_former at (Err b) rest p r l h = λ e. absurd (false≢true e)
 
   named_former : (k at : ℕ) → ComeTo s at → named k s at stop name ≡ true → Former s name stop
   unfolding named
@@ -188,13 +185,13 @@ module _ (s name : List ℕ) (stop : ℕ) where
       (omega (arith, leb-false stop at t)) (λ n d. named_former k n d)))
 
 -- what is said of a verdict
-abbrev pub VerdictSays : List ℕ → Verdict → Type 0
-VerdictSays s verdict_is.Sound = Unit
-VerdictSays s (verdict_is.Broken at) = FaultAt s at
-VerdictSays s (verdict_is.Repeated at) = ItemAgain s at
+abbrev pub VerdictSays : List ℕ → Result Unit Fault → Type 0
+VerdictSays s (Ok tt) = Unit
+VerdictSays s (Err (fault.Broken at)) = FaultAt s at
+VerdictSays s (Err (fault.Repeated at)) = ItemAgain s at
 
 module _ (s : List ℕ) where
-  read_again : (at : ℕ) (i : Item) → entry_at s at ≡ entry.Item i → Read s at i
+  read_again : (at : ℕ) (i : Item) → entry_at s at ≡ Ok (Some i) → Read s at i
       → named (length s) s 2 at (name_of s i) ≡ true
       → ItemAgain s at
   read_again at i p r t =
@@ -207,16 +204,16 @@ module _ (s : List ℕ) where
         former = f.former;
       }
 
-  walk_in_says : (at : ℕ) (e : Entry) (rest : ℕ → Verdict) → entry_at s at ≡ e → EntrySays s at e
+  walk_in_says : (at : ℕ) (e : Result (Option Item) ℕ) (rest : ℕ → Result Unit Fault) → entry_at s at ≡ e → EntrySays s at e
       → ((n : ℕ) → at < n → ComeTo s n → VerdictSays s (rest n))
       → VerdictSays s (walk_in s at e rest)
   unfolding walk_in
-  walk_in_says at (entry.Item i) rest p r h =
+  walk_in_says at (Ok (Some i)) rest p r h =
       by_bool (named (length s) s 2 at (name_of s i))
       (λ t. rw t (read_again at i p r t))
       (λ t. rw t (h (next i) (omega (arith, r.next_is)) (read_next s at i r)))
-  walk_in_says at entry.End rest p r h = tt
-  walk_in_says at (entry.Broken b) rest p r h = r
+  walk_in_says at (Ok None) rest p r h = tt
+  walk_in_says at (Err b) rest p r h = r
 
   -- a walk's count ends behind the dictionary alone
   walk_says : (k at : ℕ) → length s ≤ k + at → ComeTo s at → VerdictSays s (walk k s at)
@@ -252,13 +249,13 @@ pub record FoundItem (s name : List ℕ) (kind start n : ℕ) : Type 0 where
   pub size_is : sound.value_size ≡ n
 
 -- what is said of an answer: nothing where the name is absent, and a search refuses nothing
-abbrev pub FoundSays : List ℕ → List ℕ → Found → Type 0
-FoundSays s name (found.At kind start n) = FoundItem s name kind start n
-FoundSays s name found.Absent = Unit
-FoundSays s name (found.Refused r) = ⊥
+abbrev pub FoundSays : List ℕ → List ℕ → Result (Option Value) Refusal → Type 0
+FoundSays s name (Ok (Some v)) = FoundItem s name v.kind v.start v.length
+FoundSays s name (Ok None) = Unit
+FoundSays s name (Err r) = ⊥
 
 module _ (s name : List ℕ) where
-  read_found : (at : ℕ) (i : Item) → entry_at s at ≡ entry.Item i → Read s at i → name_of s i ≡ name
+  read_found : (at : ℕ) (i : Item) → entry_at s at ≡ Ok (Some i) → Read s at i → name_of s i ≡ name
       → FoundItem s name i.kind i.value i.value_len
   read_found at i p r e =
       record {
@@ -270,16 +267,16 @@ module _ (s name : List ℕ) where
         size_is = r.value_len;
       }
 
-  search_in_says : (at : ℕ) (e : Entry) (rest : ℕ → Found) → entry_at s at ≡ e → EntrySays s at e
+  search_in_says : (at : ℕ) (e : Result (Option Item) ℕ) (rest : ℕ → Result (Option Value) Refusal) → entry_at s at ≡ e → EntrySays s at e
       → ((n : ℕ) → ComeTo s n → FoundSays s name (rest n))
       → FoundSays s name (search_in s name e rest)
   unfolding search_in
-  search_in_says at (entry.Item i) rest p r h =
+  search_in_says at (Ok (Some i)) rest p r h =
       by_bool (same (name_of s i) name)
       (λ t. rw t (read_found at i p r (same_true (name_of s i) name t)))
       (λ t. rw t (h (next i) (read_next s at i r)))
-  search_in_says at entry.End rest p r h = tt
-  search_in_says at (entry.Broken b) rest p r h = tt
+  search_in_says at (Ok None) rest p r h = tt
+  search_in_says at (Err b) rest p r h = tt
 
   search_from_says : (k at : ℕ) → ComeTo s at → FoundSays s name (search_from k s at name)
   unfolding search_from

@@ -19,10 +19,9 @@ use Rattle.refusals.specs.declared.Outcome.TheVariants as outcome
 use Rattle.fields.specs.Fields.{bytes_at, given}
 use Rattle.fields.specs.declared.Place.{Place}
 use Rattle.dictionary.specs.Dictionary.{verdict}
-use Rattle.dictionary.specs.declared.Verdict.{Verdict}
-use Rattle.dictionary.specs.declared.Verdict.TheVariants as verdict_is
-use Rattle.dictionary.specs.declared.Found.{Found}
-use Rattle.dictionary.specs.declared.Found.TheVariants as found
+use Rattle.dictionary.specs.declared.Fault.TheVariants as fault
+use Rattle.dictionary.specs.declared.Fault.{Fault}
+use Rattle.dictionary.specs.declared.Value.{Value}
 use Rattle.dictionary.proofs.Laws.Within.{verdict-placed}
 use Rattle.kdf_dictionary.specs.Kdf.{uuid_name, salt_name, rounds_name}
 use Rattle.kdf_dictionary.specs.KdfDictionary.{searched, item_of, fault_in, fault_at, aes_kdf_in, aes_kdf_of, argon2_items, complete, incomplete, argon2_listed, unlisted, argon2_figures, argon2_in, listed_as, listed_in, uuid_in, uuid_of, kdf_in, kdf_of}
@@ -30,28 +29,29 @@ use Rattle.kdf_dictionary.specs.declared.Items.{Items}
 use Rattle.kdf_dictionary.specs.declared.Variant.{Variant}
 use Rattle.kdf_dictionary.specs.declared.Listed.{Listed}
 use Rattle.kdf_dictionary.specs.declared.Listed.TheVariants as listed
-use Rattle.kdf_dictionary.specs.declared.Reading.{Reading}
-use Rattle.kdf_dictionary.specs.declared.Reading.TheVariants.{Asks, Refused}
+use Rattle.std.specs.Prelude.{Result, Ok, Err, Option, Some, None}
+use Rattle.refusals.specs.declared.Refusal.{Refusal}
+use Rattle.kdf_dictionary.specs.declared.Kdf.{Kdf}
 use Rattle.kdf_dictionary.proofs.Laws.Items.{found_within}
 use Rattle.outer_header.specs.Kdbx4Header.{custom_in, custom_of}
 use Rattle.places.specs.Places.{LiesIn}
 
 -- nothing is said of an accepted dictionary
-abbrev pub Lies : ℕ → Reading → Type 0
-Lies n (Asks k) = 0 ≤ 0
-Lies n (Refused r) = LiesIn n r
+abbrev pub Lies : ℕ → Result Kdf Refusal → Type 0
+Lies n (Ok k) = 0 ≤ 0
+Lies n (Err r) = LiesIn n r
 
 abbrev pub LiesOutcome : ℕ → Outcome → Type 0
 LiesOutcome n outcome.Accepted = 0 ≤ 0
 LiesOutcome n (outcome.Refused r) = LiesIn n r
 
 module _ (d : List ℕ) (p : Place) (n : ℕ) (ends : p.start + length d < n) where
-  fault_in-lt : (name : List ℕ) (f : Found) → f ≡ searched d name → fault_in p name f < n
+  fault_in-lt : (name : List ℕ) (f : Result (Option Value) Refusal) → f ≡ searched d name → fault_in p name f < n
   unfolding fault_in
-  fault_in-lt name (found.At kind start m) e =
-      let w = found_within d name (found.At kind start m) e kind start m refl in omega arith
-  fault_in-lt name found.Absent e = omega arith
-  fault_in-lt name (found.Refused r) e = omega arith
+  fault_in-lt name (Ok (Some v)) e =
+      let w = found_within d name (Ok (Some (record { kind = v.kind; start = v.start; length = v.length }))) e v.kind v.start v.length refl in omega arith
+  fault_in-lt name (Ok None) e = omega arith
+  fault_in-lt name (Err r) e = omega arith
 
   fault_at-lt : (name : List ℕ) → fault_at d p name < n
   fault_at-lt name = fault_in-lt name (searched d name) refl
@@ -102,17 +102,17 @@ module _ (d : List ℕ) (p : Place) (n : ℕ) (ends : p.start + length d < n) wh
       (λ t. rw t (listed_lies (listed_as (bytes_at d q))))
       (λ t. rw t (fault_at-lt uuid_name))
 
-  kdf_in_lies : (v : Verdict) → v ≡ verdict d → Lies n (kdf_in d p v)
+  kdf_in_lies : (v : Result Unit Fault) → v ≡ verdict d → Lies n (kdf_in d p v)
   unfolding kdf_in
-  kdf_in_lies verdict_is.Sound e = uuid_lies
-  kdf_in_lies (verdict_is.Broken at) e = let w = rw (sym e) at (verdict-placed d) in omega arith
-  kdf_in_lies (verdict_is.Repeated at) e = let w = rw (sym e) at (verdict-placed d) in omega arith
+  kdf_in_lies (Ok tt) e = uuid_lies
+  kdf_in_lies (Err (fault.Broken at)) e = let w = rw (sym e) at (verdict-placed d) in omega arith
+  kdf_in_lies (Err (fault.Repeated at)) e = let w = rw (sym e) at (verdict-placed d) in omega arith
 
-  custom_in_lies : (v : Verdict) → v ≡ verdict d → LiesOutcome n (custom_in p v)
+  custom_in_lies : (v : Result Unit Fault) → v ≡ verdict d → LiesOutcome n (custom_in p v)
   unfolding custom_in
-  custom_in_lies verdict_is.Sound e = omega arith
-  custom_in_lies (verdict_is.Broken at) e = let w = rw (sym e) at (verdict-placed d) in omega arith
-  custom_in_lies (verdict_is.Repeated at) e = let w = rw (sym e) at (verdict-placed d) in omega arith
+  custom_in_lies (Ok tt) e = omega arith
+  custom_in_lies (Err (fault.Broken at)) e = let w = rw (sym e) at (verdict-placed d) in omega arith
+  custom_in_lies (Err (fault.Repeated at)) e = let w = rw (sym e) at (verdict-placed d) in omega arith
 
 module _ (s : List ℕ) (p : Place) (n : ℕ) (ends : p.start + length (bytes_at s p) < n) where
   pub kdf_of_lies : Lies n (kdf_of s p)

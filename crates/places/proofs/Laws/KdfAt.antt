@@ -28,10 +28,9 @@ use Rattle.fields.specs.declared.Place.{Place}
 use Rattle.fields.specs.declared.SizeRule.{SizeRule}
 use Rattle.fields.specs.declared.SizeRule.TheVariants.{Any, Exactly}
 use Rattle.dictionary.specs.Dictionary.{verdict}
-use Rattle.dictionary.specs.declared.Verdict.{Verdict}
-use Rattle.dictionary.specs.declared.Verdict.TheVariants as verdict_is
-use Rattle.dictionary.specs.declared.Found.{Found}
-use Rattle.dictionary.specs.declared.Found.TheVariants as found
+use Rattle.dictionary.specs.declared.Fault.TheVariants as fault
+use Rattle.dictionary.specs.declared.Fault.{Fault}
+use Rattle.dictionary.specs.declared.Value.{Value}
 use Rattle.kdf_dictionary.specs.Kdf.{
   aes_kdf_uuid,
   argon2d_uuid,
@@ -66,8 +65,9 @@ use Rattle.kdf_dictionary.specs.KdfDictionary.{
 }
 use Rattle.kdf_dictionary.specs.declared.Variant.{Variant}
 use Rattle.kdf_dictionary.specs.declared.Variant.TheVariants as variant
-use Rattle.kdf_dictionary.specs.declared.Reading.{Reading}
-use Rattle.kdf_dictionary.specs.declared.Reading.TheVariants.{Asks, Refused}
+use Rattle.std.specs.Prelude.{Result, Ok, Err, Option, Some, None}
+use Rattle.refusals.specs.declared.Refusal.{Refusal}
+use Rattle.kdf_dictionary.specs.declared.Kdf.{Kdf}
 use Rattle.outer_header.specs.Kdbx4Header.{custom_in, custom_of}
 use Rattle.places.specs.Begins.{InValue, PointsTo}
 use Rattle.places.specs.Items.{
@@ -113,9 +113,9 @@ use Rattle.places.proofs.Laws.KdfFigures.{
 }
 
 -- nothing is said of an accepted dictionary
-abbrev pub Points : List ℕ → Reading → Type 0
-Points s (Asks k) = Unit
-Points s (Refused r) = PointsTo s r
+abbrev pub Points : List ℕ → Result Kdf Refusal → Type 0
+Points s (Ok k) = Unit
+Points s (Err r) = PointsTo s r
 
 abbrev pub PointsOutcome : List ℕ → Outcome → Type 0
 PointsOutcome s outcome.Accepted = Unit
@@ -131,21 +131,21 @@ module _ (s : List ℕ) (p : Place) (m : Met s 12 11 p) where
       (λ t. rw t tt)
       (λ t. rw t (outside_points s p m c t))
 
-  module _ (sound : verdict (bytes_at s p) ≡ verdict_is.Sound) where
-    fault_needed : (name : List ℕ) (kind : ℕ) (rule : SizeRule) (f : Found) → Needed (bytes_at s p) name kind rule
+  module _ (sound : verdict (bytes_at s p) ≡ Ok tt) where
+    fault_needed : (name : List ℕ) (kind : ℕ) (rule : SizeRule) (f : Result (Option Value) Refusal) → Needed (bytes_at s p) name kind rule
         → searched (bytes_at s p) name ≡ f
         → FoundSays (bytes_at s p) name f
         → Lacks kind rule f
         → InValue NeedAt s 11 (fault_in p name f)
     unfolding fault_in
-    fault_needed name kind rule (found.At k start n) d e h l =
-        let b : h.at ≡ start - (9 + length name) = omega (arith, h.start_is) in
-        in_value s 11 p NeedAt (start - (9 + length name)) m
+    fault_needed name kind rule (Ok (Some v)) d e h l =
+        let b : h.at ≡ v.start - (9 + length name) = omega (arith, h.start_is) in
+        in_value s 11 p NeedAt (v.start - (9 + length name)) m
         (subst (NeedAt (bytes_at s p)) b (NeedAt.wrong name kind rule h.at d h.item
-        (found_wrong (bytes_at s p) name kind rule k start n h l)))
-    fault_needed name kind rule found.Absent d e h l =
+        (found_wrong (bytes_at s p) name kind rule v.kind v.start v.length h l)))
+    fault_needed name kind rule (Ok None) d e h l =
         in_front s 11 p NeedAt m (NeedAt.none name kind rule d (searched_absent (bytes_at s p) name sound e))
-    fault_needed name kind rule (found.Refused r) d e h l = absurd h
+    fault_needed name kind rule (Err r) d e h l = absurd h
 
     needed_points : (name : List ℕ) (kind : ℕ) (rule : SizeRule) → Needed (bytes_at s p) name kind rule
         → Lacks kind rule (searched (bytes_at s p) name)
@@ -239,14 +239,14 @@ module _ (s : List ℕ) (p : Place) (m : Met s 12 11 p) where
         (λ t. rw t (uuid_listed q (sized_item d uuid_name 0x42 16 (omega arith) t)))
         (λ t. rw t (unsized_points uuid_name 0x42 16 Needed.uuid t))
 
-  kdf_in_points : (v : Verdict) → v ≡ verdict (bytes_at s p) → Points s (kdf_in (bytes_at s p) p v)
+  kdf_in_points : (v : Result Unit Fault) → v ≡ verdict (bytes_at s p) → Points s (kdf_in (bytes_at s p) p v)
   unfolding kdf_in
-  kdf_in_points verdict_is.Sound e = uuid_points (sym e)
-  kdf_in_points (verdict_is.Broken at) e =
-      let h : VerdictSays (bytes_at s p) (verdict_is.Broken at) = rw (sym e) at (verdict_points (bytes_at s p)) in
+  kdf_in_points (Ok tt) e = uuid_points (sym e)
+  kdf_in_points (Err (fault.Broken at)) e =
+      let h : VerdictSays (bytes_at s p) (Err (fault.Broken at)) = rw (sym e) at (verdict_points (bytes_at s p)) in
       PointsTo.broken_kdf (p.start + at) (in_value s 11 p FaultAt at m h)
-  kdf_in_points (verdict_is.Repeated at) e =
-      let h : VerdictSays (bytes_at s p) (verdict_is.Repeated at) = rw (sym e) at (verdict_points (bytes_at s p)) in
+  kdf_in_points (Err (fault.Repeated at)) e =
+      let h : VerdictSays (bytes_at s p) (Err (fault.Repeated at)) = rw (sym e) at (verdict_points (bytes_at s p)) in
       PointsTo.repeated_kdf_item (p.start + at) (in_value s 11 p ItemAgain at m h)
 
   pub kdf_of_points : Points s (kdf_of s p)
@@ -254,14 +254,14 @@ module _ (s : List ℕ) (p : Place) (m : Met s 12 11 p) where
   kdf_of_points = kdf_in_points (verdict (bytes_at s p)) refl
 
 module _ (s : List ℕ) (p : Place) where
-  custom_in_points : Met s 12 12 p → (v : Verdict) → v ≡ verdict (bytes_at s p) → PointsOutcome s (custom_in p v)
+  custom_in_points : Met s 12 12 p → (v : Result Unit Fault) → v ≡ verdict (bytes_at s p) → PointsOutcome s (custom_in p v)
   unfolding custom_in
-  custom_in_points m verdict_is.Sound e = tt
-  custom_in_points m (verdict_is.Broken at) e =
-      let h : VerdictSays (bytes_at s p) (verdict_is.Broken at) = rw (sym e) at (verdict_points (bytes_at s p)) in
+  custom_in_points m (Ok tt) e = tt
+  custom_in_points m (Err (fault.Broken at)) e =
+      let h : VerdictSays (bytes_at s p) (Err (fault.Broken at)) = rw (sym e) at (verdict_points (bytes_at s p)) in
       PointsTo.broken_custom (p.start + at) (in_value s 12 p FaultAt at m h)
-  custom_in_points m (verdict_is.Repeated at) e =
-      let h : VerdictSays (bytes_at s p) (verdict_is.Repeated at) = rw (sym e) at (verdict_points (bytes_at s p)) in
+  custom_in_points m (Err (fault.Repeated at)) e =
+      let h : VerdictSays (bytes_at s p) (Err (fault.Repeated at)) = rw (sym e) at (verdict_points (bytes_at s p)) in
       PointsTo.repeated_custom_item (p.start + at) (in_value s 12 p ItemAgain at m h)
 
   pub custom_of_points : (given p ≡ true → Met s 12 12 p) → PointsOutcome s (custom_of s p)

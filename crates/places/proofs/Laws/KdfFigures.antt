@@ -21,8 +21,9 @@ use Rattle.refusals.specs.Limits.{salt_fits, passes_fit, memory_fits, lanes_fit,
 use Rattle.refusals.specs.declared.Refusal.TheVariants.{Unlisted, FigureOutside}
 use Rattle.fields.specs.Fields.{bytes_at, given}
 use Rattle.fields.specs.declared.Place.{Place}
-use Rattle.dictionary.specs.declared.Found.{Found}
-use Rattle.dictionary.specs.declared.Found.TheVariants as found
+use Rattle.std.specs.Prelude.{Option, Some, None, Result, Ok, Err}
+use Rattle.dictionary.specs.declared.Value.{Value}
+use Rattle.refusals.specs.declared.Refusal.{Refusal}
 use Rattle.kdf_dictionary.specs.Kdf.{
   salt_name,
   version_name,
@@ -90,21 +91,21 @@ little_memory d e v n h =
     }
 
 module _ (s : List ℕ) (p : Place) (m : Met s 12 11 p) where
-  fault_item : (name : List ℕ) (f : Found) → FoundSays (bytes_at s p) name f → is_found f ≡ true
+  fault_item : (name : List ℕ) (f : Result (Option Value) Refusal) → FoundSays (bytes_at s p) name f → is_found f ≡ true
       → InValue (ItemOf name) s 11 (fault_in p name f)
   unfolding fault_in is_found
-  fault_item name (found.At kind start n) h e =
-      in_value s 11 p (ItemOf name) (start - (9 + length name)) m
+  fault_item name (Ok (Some v)) h e =
+      in_value s 11 p (ItemOf name) (v.start - (9 + length name)) m
       (subst (ItemOf name (bytes_at s p)) (omega (arith, h.start_is)) h.item)
-  fault_item name found.Absent h e = absurd (false≢true e)
-  fault_item name (found.Refused r) h e = absurd (false≢true e)
+  fault_item name (Ok None) h e = absurd (false≢true e)
+  fault_item name (Err r) h e = absurd (false≢true e)
 
   named_item : (name : List ℕ) → has_item (bytes_at s p) name ≡ true
       → InValue (ItemOf name) s 11 (fault_at (bytes_at s p) p name)
   named_item name e =
       fault_item name (searched (bytes_at s p) name) (searched_begins (bytes_at s p) name) e
 
-  pub kdf_item : (name : List ℕ) (q : Place) (f : Found) (F : List ℕ → ℕ → ℕ → Type 0)
+  pub kdf_item : (name : List ℕ) (q : Place) (f : Result (Option Value) Refusal) (F : List ℕ → ℕ → ℕ → Type 0)
       → GivenItem (bytes_at s p) name q f
       → F (bytes_at s p) q.start q.length
       → InValue (ItemWith name F) s 11 (fault_in p name f)

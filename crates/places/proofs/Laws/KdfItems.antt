@@ -16,7 +16,7 @@ use native.Mathlib.Omega.{arith}
 use lib.Dec.{eqb}
 use lib.ListN.{length, take, drop}
 use borrow.Author.Tests.{eqb-true, eqb-false, ne_eqb, not-true}
-use Rattle.words.specs.declared.le.Size.TheVariants.{Of}
+use Rattle.std.specs.Prelude.{Some, Option, None, Result, Ok, Err}
 use Rattle.words.proofs.Laws.Cases.{by_bool, and_true}
 use Rattle.slices.specs.Same.{same}
 use Rattle.slices.proofs.Laws.Same.{same_refl}
@@ -24,8 +24,8 @@ use Rattle.fields.specs.Fields.{bytes_at, given, fits}
 use Rattle.fields.specs.declared.Place.{Place}
 use Rattle.fields.specs.declared.SizeRule.{SizeRule}
 use Rattle.fields.specs.declared.SizeRule.TheVariants.{Any, Exactly}
-use Rattle.dictionary.specs.declared.Found.{Found}
-use Rattle.dictionary.specs.declared.Found.TheVariants as found
+use Rattle.dictionary.specs.declared.Value.{Value}
+use Rattle.refusals.specs.declared.Refusal.{Refusal}
 use Rattle.kdf_dictionary.specs.Kdf.{
   aes_kdf_uuid,
   argon2d_uuid,
@@ -43,7 +43,7 @@ use Rattle.places.proofs.Laws.Sizes.{of_same}
 use Rattle.places.proofs.Laws.ItemsAt.{sound-value, FoundItem, FoundSays, searched_begins}
 
 -- an item of a name that is given, with its value at q: where it begins, and so where its fault is
-pub record GivenItem (d name : List ℕ) (q : Place) (f : Found) : Type 0 where
+pub record GivenItem (d name : List ℕ) (q : Place) (f : Result (Option Value) Refusal) : Type 0 where
   pub at : ℕ
   pub item : ItemOf name d at
   pub sound : SoundItem d at
@@ -51,11 +51,11 @@ pub record GivenItem (d name : List ℕ) (q : Place) (f : Found) : Type 0 where
   pub length_is : q.length ≡ sound.value_size
   pub fault_is : (p : Place) → p.start + at ≡ fault_in p name f
 
-typed_item : (d name : List ℕ) (kind : ℕ) (f : Found) → FoundSays d name f → 0 < (typed_in kind f).start
+typed_item : (d name : List ℕ) (kind : ℕ) (f : Result (Option Value) Refusal) → FoundSays d name f → 0 < (typed_in kind f).start
     → GivenItem d name (typed_in kind f) f
 unfolding typed_in fault_in
-typed_item d name kind (found.At k start n) h =
-    by_bool (eqb k kind)
+typed_item d name kind (Ok (Some v)) h =
+    by_bool (eqb v.kind kind)
     (λ t. rw t (λ l. record {
       at = h.at;
       item = h.item;
@@ -65,8 +65,8 @@ typed_item d name kind (found.At k start n) h =
       fault_is = λ p. omega (arith, h.start_is);
     }))
     (λ t. rw t (λ l. absurd (omega arith)))
-typed_item d name kind found.Absent h = λ l. absurd (omega arith)
-typed_item d name kind (found.Refused r) h = λ l. absurd h
+typed_item d name kind (Ok None) h = λ l. absurd (omega arith)
+typed_item d name kind (Err r) h = λ l. absurd h
 
 pub given_item : (d name : List ℕ) (kind : ℕ) → given (item_of d name kind) ≡ true
     → GivenItem d name (item_of d name kind) (searched d name)
@@ -75,13 +75,13 @@ given_item d name kind e =
     let n = eqb-false q.start 0 (not-true (eqb q.start 0) e) in
     typed_item d name kind (searched d name) (searched_begins d name) (omega (arith, n))
 
-typed-start : (d name : List ℕ) (kind : ℕ) (f : Found) → FoundSays d name f → 0 < (typed_in kind f).length
+typed-start : (d name : List ℕ) (kind : ℕ) (f : Result (Option Value) Refusal) → FoundSays d name f → 0 < (typed_in kind f).length
     → 0 < (typed_in kind f).start
 unfolding typed_in
-typed-start d name kind (found.At k start n) h =
-    by_bool (eqb k kind) (λ t. rw t (λ l. omega (arith, h.start_is))) (λ t. rw t (λ l. absurd (omega arith)))
-typed-start d name kind found.Absent h = λ l. l
-typed-start d name kind (found.Refused r) h = λ l. l
+typed-start d name kind (Ok (Some v)) h =
+    by_bool (eqb v.kind kind) (λ t. rw t (λ l. omega (arith, h.start_is))) (λ t. rw t (λ l. absurd (omega arith)))
+typed-start d name kind (Ok None) h = λ l. l
+typed-start d name kind (Err r) h = λ l. l
 
 pub sized_item : (d name : List ℕ) (kind n : ℕ) → 0 < n → eqb (item_of d name kind).length n ≡ true
     → GivenItem d name (item_of d name kind) (searched d name)
@@ -90,7 +90,7 @@ sized_item d name kind n h e =
     let l : 0 < (item_of d name kind).length = omega (arith, h, eqb-true (item_of d name kind).length n e) in
     typed_item d name kind f (searched_begins d name) (typed-start d name kind f (searched_begins d name) l)
 
-pub item_with : (d name : List ℕ) (q : Place) (f : Found) (F : List ℕ → ℕ → ℕ → Type 0) (g : GivenItem d name q f)
+pub item_with : (d name : List ℕ) (q : Place) (f : Result (Option Value) Refusal) (F : List ℕ → ℕ → ℕ → Type 0) (g : GivenItem d name q f)
     → F d q.start q.length
     → ItemWith name F d g.at
 item_with d name q f F g h =
@@ -102,7 +102,7 @@ item_with d name q f F g h =
           (subst (λ (v : ℕ). F d v q.length) g.start_is h);
     }
 
-pub names : (d : List ℕ) (q : Place) (f : Found) (K : List ℕ → Type 0) → GivenItem d uuid_name q f → K (bytes_at d q)
+pub names : (d : List ℕ) (q : Place) (f : Result (Option Value) Refusal) (K : List ℕ → Type 0) → GivenItem d uuid_name q f → K (bytes_at d q)
     → Names K d
 names d q f K g h =
     record { at = g.at; uuid = item_with d uuid_name q f (λ (e : List ℕ) (v n : ℕ). K (take n (drop v e))) g h }
@@ -142,44 +142,44 @@ complete_given d e =
     record { version = v.0; salt = s.0; passes = i.0; memory = m.0; lanes = m.1 }
 
 -- an item that is found has another type, or a wrong size
-abbrev pub Lacks : ℕ → SizeRule → Found → Type 0
-Lacks kind rule (found.At k start n) = k ≡ kind → fits rule n ≡ true → ⊥
-Lacks kind rule found.Absent = Unit
-Lacks kind rule (found.Refused r) = Unit
+abbrev pub Lacks : ℕ → SizeRule → Result (Option Value) Refusal → Type 0
+Lacks kind rule (Ok (Some v)) = v.kind ≡ kind → fits rule v.length ≡ true → ⊥
+Lacks kind rule (Ok None) = Unit
+Lacks kind rule (Err r) = Unit
 
 pub found_wrong : (d name : List ℕ) (kind : ℕ) (rule : SizeRule) (k start n : ℕ) (h : FoundItem d name k start n)
-    → Lacks kind rule (found.At k start n)
+    → Lacks kind rule (Ok (Some (record { kind = k; start = start; length = n })))
     → Typed d h.at kind rule
     → ⊥
 found_wrong d name kind rule k start n h l y =
     let i = h.sound in
     let v : y.sound.value_size ≡ n =
     of_same y.sound.value_size n
-    (sym (sound-value d h.at i.name_size (Of i.value_size) y.sound i.name_is i.value_is)
-    ∙ ap (λ (j : ℕ). Of j) h.size_is) in
+    (sym (sound-value d h.at i.name_size (Some i.value_size) y.sound i.name_is i.value_is)
+    ∙ ap (λ (j : ℕ). Some j) h.size_is) in
     l (sym h.kind_is ∙ y.kind_is) (subst (λ (j : ℕ). fits rule j ≡ true) v y.size_fits)
 
 given_start : (start n : ℕ) → 0 < start → given (record { start = start; length = n }) ≡ true
 given_start start n h = rw (ne_eqb start 0 (λ e. omega arith))
 
-ungiven : (d name : List ℕ) (kind : ℕ) (f : Found) → FoundSays d name f → given (typed_in kind f) ≡ false
+ungiven : (d name : List ℕ) (kind : ℕ) (f : Result (Option Value) Refusal) → FoundSays d name f → given (typed_in kind f) ≡ false
     → Lacks kind Any f
 unfolding typed_in
-ungiven d name kind (found.At k start n) h =
-    by_bool (eqb k kind)
-    (λ t. rw t (λ e q r. false≢true (sym e ∙ given_start start n (omega (arith, h.start_is)))))
-    (λ t. rw t (λ e q r. eqb-false k kind t q))
-ungiven d name kind found.Absent h = λ e. tt
-ungiven d name kind (found.Refused r) h = λ e. tt
+ungiven d name kind (Ok (Some v)) h =
+    by_bool (eqb v.kind kind)
+    (λ t. rw t (λ e q r. false≢true (sym e ∙ given_start v.start v.length (omega (arith, h.start_is)))))
+    (λ t. rw t (λ e q r. eqb-false v.kind kind t q))
+ungiven d name kind (Ok None) h = λ e. tt
+ungiven d name kind (Err r) h = λ e. tt
 
 pub ungiven_lacks : (d name : List ℕ) (kind : ℕ) → given (item_of d name kind) ≡ false → Lacks kind Any (searched d name)
 ungiven_lacks d name kind e = ungiven d name kind (searched d name) (searched_begins d name) e
 
-pub unsized_lacks : (kind m : ℕ) (f : Found) → eqb (typed_in kind f).length m ≡ false → Lacks kind (Exactly m) f
+pub unsized_lacks : (kind m : ℕ) (f : Result (Option Value) Refusal) → eqb (typed_in kind f).length m ≡ false → Lacks kind (Exactly m) f
 unfolding typed_in fits
-unsized_lacks kind m (found.At k start n) =
-    by_bool (eqb k kind)
+unsized_lacks kind m (Ok (Some v)) =
+    by_bool (eqb v.kind kind)
     (λ t. rw t (λ e q r. false≢true (sym e ∙ r)))
-    (λ t. rw t (λ e q r. eqb-false k kind t q))
-unsized_lacks kind m found.Absent = λ e. tt
-unsized_lacks kind m (found.Refused r) = λ e. tt
+    (λ t. rw t (λ e q r. eqb-false v.kind kind t q))
+unsized_lacks kind m (Ok None) = λ e. tt
+unsized_lacks kind m (Err r) = λ e. tt

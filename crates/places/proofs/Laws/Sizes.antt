@@ -5,10 +5,10 @@
 use mathlib.Core.Path.{◌≡◌}
 use Prim.Native.Nat.{ℕ}
 use native.Mathlib.Omega.{arith}
-use Rattle.words.specs.declared.le.Size.TheVariants.{Of, Negative}
+use Rattle.std.specs.Prelude.{Some, None}
 
-pub negative_never : (n : ℕ) → Negative ≡ Of n → ⊥
+pub negative_never : (n : ℕ) → None ≡ Some n → ⊥
 negative_never n e = let z : ◌≡◌ {A = ℕ} 0 1 = cc in omega arith
 
-pub of_same : (m n : ℕ) → Of m ≡ Of n → m ≡ n
+pub of_same : (m n : ℕ) → Some m ≡ Some n → m ≡ n
 of_same m n e = cc

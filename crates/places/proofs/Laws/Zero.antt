@@ -10,15 +10,14 @@
 use mathlib.Core.Path.{◌≡◌, refl}
 use mathlib.Core.Bool.{cond}
 use mathlib.Core.List.{List, [], ◌++◌}
-use mathlib.Core.Option.{Option, none, some}
+use mathlib.Core.Option.{Option as Maybe, none, some}
 use Prim.Native.Nat.{ℕ, zero, suc, ◌+◌, ◌-◌, ◌%◌, ◌≤◌}
 use native.Mathlib.Omega.{arith}
 use lib.Dec.{eqb, leb, ltb}
 use lib.ListN.{length}
 use Rattle.words.specs.Endian.{le}
 use Rattle.words.specs.Size.{int32}
-use Rattle.words.specs.declared.le.Size.{Size}
-use Rattle.words.specs.declared.le.Size.TheVariants.{Of, Negative}
+use Rattle.std.specs.Prelude.{Option, Some, None, Result, Ok, Err}
 use Rattle.words.proofs.Laws.Cases.{by_bool}
 use Rattle.refusals.specs.declared.Refusal.{Refusal}
 use Rattle.refusals.specs.declared.Refusal.TheVariants.{TooLong, CutShort, WrongSignature, WrongVersion, WrongSize, Repeated, UnknownField, Absent, Unlisted, BrokenDictionary, TooManyRounds, HeaderHash, HeaderTag, BlockTag, TrailingBytes, WrongPadding, NoRoom, WrongCredential, OutOfSequence, TooFewRounds, FigureOutside}
@@ -29,16 +28,12 @@ use Rattle.refusals.specs.Limits.{file_limit, payload_limit, rounds_limit, round
 use Rattle.ciphers.specs.Ciphers.{cipher_of, nonce_length}
 use Rattle.ciphers.specs.declared.Cipher.{Cipher}
 use Rattle.ciphers.specs.declared.Cipher.TheVariants.{Aes256, ChaCha20}
-use Rattle.ciphers.specs.declared.Identified.{Identified}
-use Rattle.ciphers.specs.declared.Identified.TheVariants as identified
 use Rattle.dictionary.specs.Dictionary.{verdict}
-use Rattle.dictionary.specs.declared.Verdict.{Verdict}
-use Rattle.dictionary.specs.declared.Verdict.TheVariants as verdict_is
+use Rattle.dictionary.specs.declared.Fault.TheVariants as fault
+use Rattle.dictionary.specs.declared.Fault.{Fault}
 use Rattle.kdf_dictionary.specs.declared.writer.Figures.{Figures as KdfFigures}
 use Rattle.kdf_dictionary.specs.declared.writer.Figures.TheVariants as figures
 use Rattle.header_writer.specs.Written.{custom_in, custom_verdict, checked_custom, salt_sized, checked_figures, checked_sizes, checked_cipher, checked}
-use Rattle.header_writer.specs.declared.Checked.{Checked}
-use Rattle.header_writer.specs.declared.Checked.TheVariants as checks
 use Rattle.inner_header.specs.InnerHeader.{algorithm_listed}
 use Rattle.inner_header.specs.Writer as inner
 use Rattle.block_stream.specs.Blocks.{holds, found, judge_size, judge, data_at}
@@ -66,10 +61,10 @@ found_zero : (n : ℕ) → ZeroBlock (found n)
 unfolding found
 found_zero n = by_bool (eqb n 0) (λ t. rw t (omega arith)) (λ t. rw t (omega arith))
 
-judge_size-zero : (base f : List ℕ) (i p : ℕ) (z : Size) → ZeroBlock (judge_size base f i p z)
+judge_size-zero : (base f : List ℕ) (i p : ℕ) (z : Option ℕ) → ZeroBlock (judge_size base f i p z)
 unfolding judge_size
-judge_size-zero base f i p Negative = refl
-judge_size-zero base f i p (Of n) =
+judge_size-zero base f i p None = refl
+judge_size-zero base f i p (Some n) =
     by_bool (leb n (length f - (p + 36)))
     (λ t. by_bool (holds base f i p n) (λ u. rw (t, u) (found_zero n)) (λ u. rw (t, u) refl))
     (λ t. rw t refl)
@@ -87,7 +82,7 @@ abbrev pub ZeroOpened : Opened → Type 0
 ZeroOpened (refused r) = place_of r ≡ 0
 ZeroOpened (opened b) = 0 ≤ 0
 
-stripped-zero : (o : Option (List ℕ)) → ZeroOpened (stripped o)
+stripped-zero : (o : Maybe (List ℕ)) → ZeroOpened (stripped o)
 unfolding stripped
 stripped-zero none = refl
 stripped-zero (some b) = omega arith
@@ -200,15 +195,15 @@ start_at-zero f n k =
     (λ u. by_bool (tag_holds k.base f n) (λ v. rw (t, u, v) (omega arith)) (λ v. rw (t, u, v) refl))
     (λ u. rw (t, u) refl))
 
-abbrev ZeroChecked : Checked → Type 0
-ZeroChecked (checks.As c) = 0 ≤ 0
-ZeroChecked (checks.Refused r) = place_of r ≡ 0
+abbrev ZeroChecked : Result Cipher Refusal → Type 0
+ZeroChecked (Ok c) = 0 ≤ 0
+ZeroChecked (Err r) = place_of r ≡ 0
 
-custom_in-zero : (c : Cipher) (v : Verdict) → ZeroChecked (checked_custom c (custom_in v))
+custom_in-zero : (c : Cipher) (v : Result Unit Fault) → ZeroChecked (checked_custom c (custom_in v))
 unfolding checked_custom custom_in
-custom_in-zero c verdict_is.Sound = omega arith
-custom_in-zero c (verdict_is.Broken at) = refl
-custom_in-zero c (verdict_is.Repeated at) = refl
+custom_in-zero c (Ok tt) = omega arith
+custom_in-zero c (Err (fault.Broken at)) = refl
+custom_in-zero c (Err (fault.Repeated at)) = refl
 
 custom_zero : (c : Cipher) (custom : List ℕ) → ZeroChecked (checked_custom c (custom_verdict custom))
 unfolding custom_verdict checked_custom
@@ -240,11 +235,11 @@ sizes-zero c seed nonce k salt custom =
     (λ u. rw (t, u) refl))
     (λ t. rw t refl)
 
-cipher-zero : (i : Identified) (seed nonce : List ℕ) (k : KdfFigures) (salt custom : List ℕ)
+cipher-zero : (i : Option Cipher) (seed nonce : List ℕ) (k : KdfFigures) (salt custom : List ℕ)
     → ZeroChecked (checked_cipher i seed nonce k salt custom)
 unfolding checked_cipher
-cipher-zero identified.Unlisted seed nonce k salt custom = refl
-cipher-zero (identified.As c) seed nonce k salt custom = sizes-zero c seed nonce k salt custom
+cipher-zero None seed nonce k salt custom = refl
+cipher-zero (Some c) seed nonce k salt custom = sizes-zero c seed nonce k salt custom
 
 checked_zero : (minor : ℕ) (id seed nonce : List ℕ) (k : KdfFigures) (salt custom : List ℕ)
     → ZeroChecked (checked minor id seed nonce k salt custom)
@@ -263,11 +258,11 @@ settled-zero s b f n =
     (λ u. rw (t, u) refl))
     (λ t. rw t refl)
 
-writing_by-zero : (s : Sizes) (c : Checked) (g : Figures) (t b : List ℕ) (n : ℕ) → ZeroChecked c
+writing_by-zero : (s : Sizes) (c : Result Cipher Refusal) (g : Figures) (t b : List ℕ) (n : ℕ) → ZeroChecked c
     → ZeroWritten (writing_by s c g t b n)
 unfolding writing_by
-writing_by-zero s (checks.Refused r) g t b n z = z
-writing_by-zero s (checks.As c) g t b n z = settled-zero s (length b) (length (file_cut s.block g c t b)) n
+writing_by-zero s (Err r) g t b n z = z
+writing_by-zero s (Ok c) g t b n z = settled-zero s (length b) (length (file_cut s.block g c t b)) n
 
 pub writing-zero : (s : Sizes) (g : Figures) (t b : List ℕ) (n : ℕ) → ZeroWritten (writing_by s (checked_of g) g t b n)
 unfolding checked_of

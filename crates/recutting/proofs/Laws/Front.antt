@@ -15,8 +15,8 @@ use borrow.Author.Tests.{le-ltb}
 use Rattle.refusals.specs.Limits.{file_limit}
 use Rattle.outer_header.specs.Kdbx4Header.{header}
 use Rattle.outer_header.specs.declared.Header.{Header}
-use Rattle.outer_header.specs.declared.Reading.{Reading}
-use Rattle.outer_header.specs.declared.Reading.TheVariants as read
+use Rattle.std.specs.Prelude.{Result, Ok}
+use Rattle.refusals.specs.declared.Refusal.{Refusal}
 use Rattle.outer_header.proofs.Laws.Accepted.{header_stands}
 use Rattle.outer_header.proofs.Laws.Behind.{Alike, append_alike, header_alike}
 use Rattle.opening.specs.declared.Keys.{Keys}
@@ -54,7 +54,7 @@ module _ (n : ℕ) (f g : List ℕ) (a : Alike (n + 64) f g) where
       let m : 64 ≤ length g - n = omega (arith, a.long) in
       rw (le-ltb (length f - n) 64 l, le-ltb (length g - n) 64 m, hash_holds_alike, tag_holds_alike k.base)
 
-keys_of_alike : (t f g : List ℕ) (h : Header) → header f ≡ read.Header h → Alike h.length f g
+keys_of_alike : (t f g : List ℕ) (h : Header) → header f ≡ Ok h → Alike h.length f g
     → keys_of t g h ≡ keys_of t f h
 unfolding keys_of
 keys_of_alike t f g h e a =
@@ -63,9 +63,9 @@ keys_of_alike t f g h e a =
     (a.part h.seed.start h.seed.length s.seed_within)
     (a.part h.nonce.start h.nonce.length s.nonce_within)
 
-start_read : (t f : List ℕ) (h : Header) → header f ≡ read.Header h → start t f ≡ start_at f h.length (keys_of t f h)
+start_read : (t f : List ℕ) (h : Header) → header f ≡ Ok h → start t f ≡ start_at f h.length (keys_of t f h)
 unfolding start start_in
-start_read t f h e = ap (λ (r : Reading). start_in t f r) e
+start_read t f h e = ap (λ (r : Result Header Refusal). start_in t f r) e
 
 start_alike : (t f g : List ℕ) (k : Keys) (p : ℕ) → Alike p f g → length g ≤ file_limit → start t f ≡ begun k p
     → start t g ≡ begun k p

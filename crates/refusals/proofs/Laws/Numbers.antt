@@ -8,7 +8,7 @@ use Prim.Native.Nat.{ℕ, ◌<◌}
 use native.Mathlib.Omega.{arith}
 use lib.ListN.{get_or}
 use Rattle.words.specs.Answers as answers
-use Rattle.words.specs.declared.le.Size.TheVariants.{Negative}
+use Rattle.std.specs.Prelude.{None}
 use Rattle.refusals.specs.declared.Refusal.{Refusal}
 use Rattle.refusals.specs.declared.Refusal.TheVariants.{TooLong, CutShort, WrongSignature, WrongVersion, WrongSize, Repeated, UnknownField, Absent, Unlisted, BrokenDictionary, TooManyRounds, HeaderHash, HeaderTag, BlockTag, TrailingBytes, WrongPadding, NoRoom, WrongCredential, OutOfSequence, TooFewRounds, FigureOutside}
 use Rattle.refusals.specs.Numbers.{of_refusal, place_of}
@@ -79,5 +79,5 @@ unfolding named
 of_refusal_17 r e = sym (named_of_refusal r) ∙ ap (λ (n : ℕ). named n (place_of r)) e
 
 -- the number of a negative size (crate words, Answers) is that of the refusal
-pub number_negative : (at : ℕ) → answers.number Negative ≡ of_refusal (WrongSize at)
+pub number_negative : (at : ℕ) → answers.number None ≡ of_refusal (WrongSize at)
 number_negative at = refl

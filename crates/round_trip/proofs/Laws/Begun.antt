@@ -28,9 +28,8 @@ use Rattle.kdf_dictionary.specs.KdfDictionary.{
   kdf_of,
 }
 use Rattle.kdf_dictionary.specs.declared.Kdf.{Kdf}
-use Rattle.kdf_dictionary.specs.declared.Reading.TheVariants as asks
+use Rattle.std.specs.Prelude.{Ok, Err}
 use Rattle.outer_header.specs.Kdbx4Header.{custom_of, judged, header}
-use Rattle.outer_header.specs.declared.Reading.TheVariants as read
 use Rattle.outer_header.proofs.Laws.Accepted.{header_of, header-judged, refuses_judged, accepts-judged}
 use Rattle.round_trip.specs.FewRounds.{Begins}
 
@@ -55,15 +54,15 @@ module _ (rounds : ℕ) (s : List ℕ) (i : Begins rounds s) where
       let k = i.has_rounds in
       rw (k.sound, eq-eqb _ 16 k.uuid_long, k.uuid_is, same_refl aes_kdf_uuid)
 
-  pub begins_refuses : (r : Refusal) → kdf_of s i.fields.kdf ≡ asks.Refused r → header s ≡ read.Refused r
+  pub begins_refuses : (r : Refusal) → kdf_of s i.fields.kdf ≡ Err r → header s ≡ Err r
   begins_refuses r e =
       begins_judged
       ∙ refuses_judged s i.fields i.minor i.end i.cipher r i.all_present i.cipher_is i.uncompressed
       i.nonce_long e
 
-  pub begins_accepts : (k : Kdf) → kdf_of s i.fields.kdf ≡ asks.Asks k
+  pub begins_accepts : (k : Kdf) → kdf_of s i.fields.kdf ≡ Ok k
       → custom_of s i.fields.custom ≡ outcome.Accepted
-      → header s ≡ read.Header (header_of i.fields i.minor i.end i.cipher k)
+      → header s ≡ Ok (header_of i.fields i.minor i.end i.cipher k)
   begins_accepts k e c =
       begins_judged
       ∙ accepts-judged s i.fields i.minor i.end i.cipher k i.all_present i.cipher_is i.uncompressed

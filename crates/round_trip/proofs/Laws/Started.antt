@@ -17,9 +17,9 @@ use Rattle.refusals.specs.Limits.{file_limit}
 use Rattle.ciphers.specs.declared.Cipher.{Cipher}
 use Rattle.ciphers.proofs.Laws.{nonce_length-le}
 use Rattle.outer_header.specs.declared.Header.{Header}
-use Rattle.outer_header.specs.declared.Reading.{Reading}
+use Rattle.std.specs.Prelude.{Result, Ok}
+use Rattle.refusals.specs.declared.Refusal.{Refusal}
 use Rattle.header_writer.specs.ReadsBack.{ReadsBack, written_header}
-use Rattle.header_writer.specs.declared.Checked.TheVariants.{As}
 use Rattle.header_writer.proofs.Laws.CheckedLaws.{checked_as}
 use Rattle.header_writer.proofs.RoundTrip.{header_read_back}
 use Rattle.opening.specs.declared.Keys.{Keys}
@@ -45,14 +45,14 @@ module _ (g : Figures) (c : Cipher) (t : List ℕ) where
   unfolding keys_with
   nonce_is = keys_for-nonce c _ (padded g.nonce) _
 
-  pub length-nonce : checked_of g ≡ As c → length k.nonce ≡ 16
+  pub length-nonce : checked_of g ≡ Ok c → length k.nonce ≡ 16
   unfolding checked_of
   length-nonce ok =
       let w = checked_as g.minor g.cipher g.seed g.nonce g.kdf g.salt g.custom c ok in
       let l : length g.nonce ≤ 16 = omega (arith, nonce_length-le c, w.nonce_long) in
       ap length nonce_is ∙ length-padded g.nonce l
 
-  pub nonce-block : checked_of g ≡ As c → Bytes g.nonce → IsBlock k.nonce
+  pub nonce-block : checked_of g ≡ Ok c → Bytes g.nonce → IsBlock k.nonce
   unfolding padded
   nonce-block ok b =
       record {
@@ -63,7 +63,7 @@ module _ (g : Figures) (c : Cipher) (t : List ℕ) where
       }
 
 -- r is what stands behind the tag
-module _ (g : Figures) (c : Cipher) (t r : List ℕ) (ok : checked_of g ≡ As c)
+module _ (g : Figures) (c : Cipher) (t r : List ℕ) (ok : checked_of g ≡ Ok c)
     (fits : length (summed (file_keys g c t).base (header_of g c) ++ r) ≤ file_limit) where
   abbrev h : List ℕ
   h = header_of g c
@@ -101,7 +101,7 @@ module _ (g : Figures) (c : Cipher) (t r : List ℕ) (ok : checked_of g ≡ As c
       ≡ begun (file_keys g c t) (first_block_of g c)
   unfolding start start_in
   start_written =
-      ap (λ (x : Reading). start_in t f x) back.header_is
+      ap (λ (x : Result Header Refusal). start_in t f x) back.header_is
       ∙ ap₂ (λ (n : ℕ) (x : Keys). start_at f n x) length_is keys_are
       ∙ ap (λ (x : List ℕ). start_at x (length h) (file_keys g c t)) file_is
       ∙ start_at_written h r (file_keys g c t)

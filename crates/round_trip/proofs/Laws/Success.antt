@@ -18,8 +18,7 @@ use Rattle.refusals.specs.declared.Refusal.{Refusal}
 use Rattle.refusals.specs.declared.Refusal.TheVariants.{TooLong, NoRoom}
 use Rattle.refusals.specs.declared.Written.TheVariants as written
 use Rattle.ciphers.specs.declared.Cipher.{Cipher}
-use Rattle.header_writer.specs.declared.Checked.{Checked}
-use Rattle.header_writer.specs.declared.Checked.TheVariants.{As, Refused}
+use Rattle.std.specs.Prelude.{Result, Ok, Err}
 use Rattle.writer.specs.Written.{Figures, Sizes, settled, file_cut, checked_of, writing_by, writing_with, shown_by, shown_with}
 
 wrote_never : (r : Refusal) (m : ℕ) → written.Refused r ≡ written.Wrote m → ⊥
@@ -55,7 +54,7 @@ settled_says s l f n m =
 
 pub record Success (s : Sizes) (g : Figures) (t b : List ℕ) (n m : ℕ) : Type 0 where
   pub cipher : Cipher
-  pub accepted : checked_of g ≡ As cipher
+  pub accepted : checked_of g ≡ Ok cipher
   pub payload_le : length b ≤ s.payload
   pub file_le : length (file_cut s.block g cipher t b) ≤ s.file
   pub room : length (file_cut s.block g cipher t b) ≤ n
@@ -63,18 +62,18 @@ pub record Success (s : Sizes) (g : Figures) (t b : List ℕ) (n m : ℕ) : Type
   pub bytes : shown_with s g t b n ≡ file_cut s.block g cipher t b
 
 -- the bytes that a success shows
-pub shown-wrote : (s : Sizes) (g : Figures) (c : Cipher) (t b : List ℕ) (n m : ℕ) → checked_of g ≡ As c
+pub shown-wrote : (s : Sizes) (g : Figures) (c : Cipher) (t b : List ℕ) (n m : ℕ) → checked_of g ≡ Ok c
     → writing_with s g t b n ≡ written.Wrote m
     → shown_with s g t b n ≡ file_cut s.block g c t b
 unfolding shown_with shown_by
 shown-wrote s g c t b n m e h = rw (e, h)
 
-success_by : (s : Sizes) (x : Checked) (g : Figures) (t b : List ℕ) (n m : ℕ) → checked_of g ≡ x
+success_by : (s : Sizes) (x : Result Cipher Refusal) (g : Figures) (t b : List ℕ) (n m : ℕ) → checked_of g ≡ x
     → writing_with s g t b n ≡ written.Wrote m → writing_by s x g t b n ≡ written.Wrote m
     → Success s g t b n m
 unfolding writing_by
-success_by s (Refused r) g t b n m e h = λ q. absurd (wrote_never r m q)
-success_by s (As c) g t b n m e h = λ q.
+success_by s (Err r) g t b n m e h = λ q. absurd (wrote_never r m q)
+success_by s (Ok c) g t b n m e h = λ q.
     let y = settled_says s (length b) (length (file_cut s.block g c t b)) n m q in
     record {
       cipher = c;

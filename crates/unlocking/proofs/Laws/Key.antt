@@ -39,8 +39,7 @@ use Rattle.kdf_dictionary.specs.declared.Kdf.TheVariants as kdf
 use Rattle.kdf_dictionary.proofs.Laws.Asks.{IsAesKdf, IsAsked}
 use Rattle.outer_header.specs.Kdbx4Header.{header}
 use Rattle.outer_header.specs.declared.Header.{Header}
-use Rattle.outer_header.specs.declared.Reading.{Reading}
-use Rattle.outer_header.specs.declared.Reading.TheVariants as read
+use Rattle.std.specs.Prelude.{Result, Ok, Err}
 use Rattle.outer_header.proofs.Laws.Accepted.{header_stands}
 use Rattle.unlocking.specs.Unlocking.{
   argon2_key,
@@ -56,7 +55,7 @@ pub placed-length : (f : List ℕ) (p : Place) (n : ℕ) → end_of p ≤ n → 
 placed-length f p n w b =
     length-take-le p.length (drop p.start f) (simp length-drop (omega arith))
 
-module _ (f : List ℕ) (h : Header) (e : header f ≡ read.Header h) where
+module _ (f : List ℕ) (h : Header) (e : header f ≡ Ok h) where
   pub kdf_asked : (k : Kdf) → h.kdf ≡ k → IsAsked h.kdf_dictionary k
   kdf_asked k g = rw g at (header_stands f h e).kdf_stands
 
@@ -135,10 +134,10 @@ pub words_id : (k : Kdf) (a : Argon2) → k ≡ kdf.Argon2id a → argon2_words 
 unfolding words_of
 words_id k a e = rw e
 
-pub needed_refused : (x : Reading) (r : Refusal) → x ≡ read.Refused r → 0 ≡ words_needed x
+pub needed_refused : (x : Result Header Refusal) (r : Refusal) → x ≡ Err r → 0 ≡ words_needed x
 unfolding words_needed
 needed_refused x r e = rw e
 
-pub needed_read : (x : Reading) (h : Header) → x ≡ read.Header h → words_of h.kdf ≡ words_needed x
+pub needed_read : (x : Result Header Refusal) (h : Header) → x ≡ Ok h → words_of h.kdf ≡ words_needed x
 unfolding words_needed
 needed_read x h e = rw e

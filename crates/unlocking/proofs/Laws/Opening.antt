@@ -30,12 +30,9 @@ use Rattle.argon2.specs.declared.Transformed.{Transformed}
 use Rattle.kdf_dictionary.specs.declared.Kdf.{Kdf}
 use Rattle.outer_header.specs.Kdbx4Header.{header}
 use Rattle.outer_header.specs.declared.Header.{Header}
-use Rattle.outer_header.specs.declared.Reading.{Reading}
-use Rattle.outer_header.specs.declared.Reading.TheVariants as read
 use Rattle.inner_header.specs.InnerHeader.{inner}
 use Rattle.inner_header.specs.declared.Inner.{Inner}
-use Rattle.inner_header.specs.declared.Read.{Read}
-use Rattle.inner_header.specs.declared.Read.TheVariants as payload
+use Rattle.std.specs.Prelude.{Result, Ok, Err}
 use Rattle.stepping.specs.Stepping.{ran_from, written_by, written_of}
 use Rattle.unlocking.specs.declared.Unlocked.{Unlocked}
 use Rattle.unlocking.specs.declared.Unlocked.TheVariants.{Document, Refused, PayloadRefused}
@@ -56,11 +53,11 @@ use Rattle.unlocking.specs.Unlocking.{
   unlocked,
 }
 
-pub document_refused : (x : Read) (n : ℕ) (r : Refusal) → x ≡ payload.Refused r → PayloadRefused r ≡ document_of x n
+pub document_refused : (x : Result Inner Refusal) (n : ℕ) (r : Refusal) → x ≡ Err r → PayloadRefused r ≡ document_of x n
 unfolding document_of
 document_refused x n r e = rw e
 
-pub document_found : (x : Read) (n : ℕ) (i : Inner) → x ≡ payload.Header i → Document i.document n ≡ document_of x n
+pub document_found : (x : Result Inner Refusal) (n : ℕ) (i : Inner) → x ≡ Ok i → Document i.document n ≡ document_of x n
 unfolding document_of
 document_found x n i e = rw e
 
@@ -140,12 +137,12 @@ with_is k key f d m n t u x y e g h i = record {
   memory_after = g;
 }
 
-module _ (x : Reading) (key f d m : List ℕ) (n : ℕ) where
-  pub by_refused : (r : Refusal) → x ≡ read.Refused r → Shows (Refused r) d d m (opening_by x key f n m)
+module _ (x : Result Header Refusal) (key f d m : List ℕ) (n : ℕ) where
+  pub by_refused : (r : Refusal) → x ≡ Err r → Shows (Refused r) d d m (opening_by x key f n m)
   unfolding opening_by
   by_refused r e = rw e (record { value = refl; out_after = sym (over_nil d); memory_after = refl })
 
-  pub by_read : (h : Header) → x ≡ read.Header h → opening_with h.kdf key f n m ≡ opening_by x key f n m
+  pub by_read : (h : Header) → x ≡ Ok h → opening_with h.kdf key f n m ≡ opening_by x key f n m
   unfolding opening_by
   by_read h e = rw e
 

@@ -3,8 +3,8 @@ use mathlib.Core.Path.{sym, ◌∙◌}
 use Rattle.unlocking.proofs.Laws.Opening.{document_refused, document_found}
 use Rattle.unlocking.proofs.find_document.Goals as goal
 
-pub returns-in-Refused : goal.returns-in-Refused
-returns-in-Refused c = document_refused _ _ _ (sym c.read_header.ensures.value ∙ c.in-Refused.is)
+pub returns-in-Err : goal.returns-in-Err
+returns-in-Err c = document_refused _ _ _ (sym c.read_header.ensures.value ∙ c.in-Err.is)
 
-pub returns-in-Header : goal.returns-in-Header
-returns-in-Header c = document_found _ _ _ (sym c.read_header.ensures.value ∙ c.in-Header.is)
+pub returns-in-Ok : goal.returns-in-Ok
+returns-in-Ok c = document_found _ _ _ (sym c.read_header.ensures.value ∙ c.in-Ok.is)

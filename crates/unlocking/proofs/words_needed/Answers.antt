@@ -3,12 +3,12 @@ use mathlib.Core.Path.{sym, ◌∙◌}
 use Rattle.unlocking.proofs.Laws.Key.{needed_refused, needed_read}
 use Rattle.unlocking.proofs.words_needed.Goals as goal
 
-pub returns-in-Refused : goal.returns-in-Refused
-returns-in-Refused c = needed_refused _ _ (sym c.read.ensures.value ∙ c.in-Refused.is)
+pub returns-in-Err : goal.returns-in-Err
+returns-in-Err c = needed_refused _ _ (sym c.read.ensures.value ∙ c.in-Err.is)
 
 pub words_of-requires : goal.words_of-requires
-words_of-requires c = sym c.read.ensures.value ∙ c.in-Header.is
+words_of-requires c = sym c.read.ensures.value ∙ c.in-Ok.is
 
-pub returns-in-Header : goal.returns-in-Header
-returns-in-Header c =
-    c.words_of.ensures ∙ needed_read _ _ (sym c.read.ensures.value ∙ c.in-Header.is)
+pub returns-in-Ok : goal.returns-in-Ok
+returns-in-Ok c =
+    c.words_of.ensures ∙ needed_read _ _ (sym c.read.ensures.value ∙ c.in-Ok.is)

@@ -18,7 +18,7 @@ use Rattle.fields.specs.Fields.{bytes_at}
 use Rattle.keys.specs.Kdbx4Keys.{cipher_key, tag_base}
 use Rattle.outer_header.specs.Kdbx4Header.{header}
 use Rattle.outer_header.specs.declared.Header.{Header}
-use Rattle.outer_header.specs.declared.Reading.TheVariants as read
+use Rattle.std.specs.Prelude.{Ok}
 use Rattle.outer_header.proofs.Laws.Accepted.{header_stands}
 use Rattle.outer_header.proofs.Laws.Behind.{Alike, append_alike, header_alike}
 use Rattle.opening.specs.declared.Keys.{Keys}
@@ -80,12 +80,12 @@ module _ (t f u g : List ℕ) (k l : Keys) (p q : ℕ) (a : Starts t f k p) (b :
     alike = alike_front a.said.length f g (header_stands f a.said a.reads).length_le front
 
     -- the second file's header is the first's
-    reads_same : header g ≡ read.Header a.said
+    reads_same : header g ≡ Ok a.said
     reads_same =
         header_alike f g a.said alike (header_stands g b.said b.reads).file_le a.reads
 
     said_same : b.said ≡ a.said
-    said_same = let z : read.Header b.said ≡ read.Header a.said = sym b.reads ∙ reads_same in cc z
+    said_same = let z : Ok b.said ≡ Ok a.said = sym b.reads ∙ reads_same in cc z
 
     second_keys : l ≡ keys_of u g a.said
     second_keys = b.keys_are ∙ ap (keys_of u g) said_same
@@ -115,7 +115,7 @@ keys_for_same Aes256 x y m n v w e d = record { key_is = refl; round_keys_are = 
 keys_for_same ChaCha20 x y m n v w e d = record { key_is = e; round_keys_are = refl; base_is = d }
 
 module _ (t f u g : List ℕ) (k l : Keys) (p q : ℕ) (a : start t f ≡ begun k p) (b : start u g ≡ begun l q)
-    (e : take p f ≡ take q g) (h : Header) (i : header f ≡ read.Header h) where
+    (e : take p f ≡ take q g) (h : Header) (i : header f ≡ Ok h) where
   x : Starts t f k p
   x = start-begun t f k p a
 
@@ -123,7 +123,7 @@ module _ (t f u g : List ℕ) (k l : Keys) (p q : ℕ) (a : start t f ≡ begun 
   y = start-begun u g l q b
 
   read_is : x.said ≡ h
-  read_is = let z : read.Header x.said ≡ read.Header h = sym x.reads ∙ i in cc z
+  read_is = let z : Ok x.said ≡ Ok h = sym x.reads ∙ i in cc z
 
   -- the master seed's bytes in both files
   seed_bytes : bytes_at g h.seed ≡ bytes_at f h.seed

@@ -22,8 +22,7 @@ use Rattle.ciphers.proofs.Laws.{nonce_length-le}
 use Rattle.fields.specs.Fields.{bytes_at}
 use Rattle.outer_header.specs.Kdbx4Header.{header}
 use Rattle.outer_header.specs.declared.Header.{Header}
-use Rattle.outer_header.specs.declared.Reading.{Reading}
-use Rattle.outer_header.specs.declared.Reading.TheVariants as read
+use Rattle.std.specs.Prelude.{Result, Ok, Err}
 use Rattle.outer_header.proofs.Laws.Accepted.{HeaderStands, header_stands}
 use Rattle.opening.specs.declared.Keys.{Keys}
 use Rattle.opening.specs.Steps.{padded}
@@ -32,7 +31,7 @@ use Rattle.vault_keys.specs.VaultKeys.{keys_with}
 use Rattle.vault_keys.proofs.Laws.{keys_for-nonce}
 use Rattle.vault.specs.Vault.{keys_of, hash_holds, tag_holds, start_at, start_in, start, start_refused, begun}
 
-module _ (f : List ℕ) (h : Header) (e : header f ≡ read.Header h) where
+module _ (f : List ℕ) (h : Header) (e : header f ≡ Ok h) where
   stands : HeaderStands f h
   stands = header_stands f h e
 
@@ -50,7 +49,7 @@ module _ (f : List ℕ) (h : Header) (e : header f ≡ read.Header h) where
       let l = stands.nonce_length_is in
       rw (length_part f h.nonce.start h.nonce.length (omega arith)) (omega arith)
 
-nonce-keys_of : (t f : List ℕ) (h : Header) → header f ≡ read.Header h → length (keys_of t f h).nonce ≡ 16
+nonce-keys_of : (t f : List ℕ) (h : Header) → header f ≡ Ok h → length (keys_of t f h).nonce ≡ 16
 unfolding keys_of keys_with
 nonce-keys_of t f h e =
     ap length (keys_for-nonce h.cipher _ (padded (bytes_at f h.nonce)) _)
@@ -59,7 +58,7 @@ nonce-keys_of t f h e =
 -- an accepted start: the keys are the header's, and the first block stands behind its tag
 pub record Starts (t f : List ℕ) (k : Keys) (p : ℕ) : Type 0 where
   pub said : Header
-  pub reads : header f ≡ read.Header said
+  pub reads : header f ≡ Ok said
   pub keys_are : k ≡ keys_of t f said
   pub place_is : p ≡ said.length + 64
   pub inside : p ≤ length f
@@ -90,10 +89,10 @@ start_at-begun f n x k p =
     (λ d. rw (a, b, d) (λ e. absurd (refused_never HeaderTag k p e))))
     (λ b. rw (a, b) (λ e. absurd (refused_never HeaderHash k p e))))
 
-start_in-begun : (t f : List ℕ) (z : Reading) (k : Keys) (p : ℕ) → header f ≡ z → start_in t f z ≡ begun k p → Starts t f k p
+start_in-begun : (t f : List ℕ) (z : Result Header Refusal) (k : Keys) (p : ℕ) → header f ≡ z → start_in t f z ≡ begun k p → Starts t f k p
 unfolding start_in
-start_in-begun t f (read.Refused r) k p e h = absurd (refused_never r k p h)
-start_in-begun t f (read.Header said) k p e h =
+start_in-begun t f (Err r) k p e h = absurd (refused_never r k p h)
+start_in-begun t f (Ok said) k p e h =
     let x = start_at-begun f said.length (keys_of t f said) k p h in
     let l = (header_stands f said e).length_le in
     let b = x.behind in

@@ -6,27 +6,27 @@ use Rattle.vault.specs.Vault.{start_at, start_in, start}
 use Rattle.vault.specs.Checked.{checked_of}
 use Rattle.vault.proofs.check.Goals as goal
 
-pub returns-in-Refused : goal.returns-in-Refused
+pub returns-in-Err : goal.returns-in-Err
 unfolding start start_in
-returns-in-Refused c =
-    rw (sym c.read.ensures.value ∙ c.in-Refused.is) c.refuse.ensures
+returns-in-Err c =
+    rw (sym c.read.ensures.value ∙ c.in-Err.is) c.refuse.ensures
 
 pub keys_of-k-requires : goal.keys_of-k-requires
 keys_of-k-requires c =
-    sym c.read.ensures.value ∙ c.in-Header.is
+    sym c.read.ensures.value ∙ c.in-Ok.is
 
 pub check_at-requires : goal.check_at-requires
 check_at-requires c =
-    let e = sym c.read.ensures.value ∙ c.in-Header.is in
+    let e = sym c.read.ensures.value ∙ c.in-Ok.is in
     let s = header_stands c.args.f.now _ e in
     record {
       n_in_bounds = s.length_le;
       f_len_bound = s.file_le;
     }
 
-pub returns-in-Header : goal.returns-in-Header
+pub returns-in-Ok : goal.returns-in-Ok
 unfolding start start_in
-returns-in-Header c =
-    rw (sym c.read.ensures.value ∙ c.in-Header.is)
+returns-in-Ok c =
+    rw (sym c.read.ensures.value ∙ c.in-Ok.is)
     (c.check_at.ensures
-    ∙ ap (λ (k : Keys). checked_of (start_at c.args.f.now c.in-Header.h.length k)) c.keys_of-k.ensures)
+    ∙ ap (λ (k : Keys). checked_of (start_at c.args.f.now c.in-Ok.h.length k)) c.keys_of-k.ensures)

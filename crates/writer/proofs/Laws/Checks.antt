@@ -25,8 +25,7 @@ use Rattle.kdf_dictionary.specs.Kdf.{IsWritable}
 use Rattle.kdf_dictionary.specs.declared.writer.Figures.{Figures as KdfFigures}
 use Rattle.kdf_dictionary.specs.declared.writer.Figures.TheVariants as kdf
 use Rattle.header_writer.specs.Written.{checked}
-use Rattle.header_writer.specs.declared.Checked.{Checked}
-use Rattle.header_writer.specs.declared.Checked.TheVariants.{As, Refused}
+use Rattle.std.specs.Prelude.{Result, Ok, Err}
 use Rattle.header_writer.proofs.Laws.CheckedLaws.{checked_as}
 use Rattle.writer.specs.Written.{Figures, file_bytes, sizes, settled, writing, writing_by, writing_with, checked_of, shown, shown_by, shown_with}
 use Rattle.writer.specs.Stretches.{Sized, bytes_of}
@@ -39,7 +38,7 @@ writable_le (kdf.Argon2d passes memory lanes) n h = (argon2_fits_bounds n passes
 writable_le (kdf.Argon2id passes memory lanes) n h = (argon2_fits_bounds n passes memory lanes h).salt_most
 
 pub checked-sized : (minor : ℕ) (id seed nonce : List ℕ) (fig : KdfFigures) (salt custom : List ℕ) (c : Cipher)
-    → checked minor id seed nonce fig salt custom ≡ As c
+    → checked minor id seed nonce fig salt custom ≡ Ok c
     → Sized c seed nonce salt
 checked-sized minor id seed nonce fig salt custom c e =
     let k = checked_as minor id seed nonce fig salt custom c e in
@@ -49,32 +48,32 @@ checked-sized minor id seed nonce fig salt custom c e =
       salt_le = writable_le fig (length salt) k.writable;
     }
 
-pub writing-refused : (g : Figures) (t b : List ℕ) (n : ℕ) (r : Refusal) → checked_of g ≡ Refused r
+pub writing-refused : (g : Figures) (t b : List ℕ) (n : ℕ) (r : Refusal) → checked_of g ≡ Err r
     → written.Refused r ≡ writing g t b n
 unfolding writing_with writing_by
 writing-refused g t b n r e = rw e
 
-pub shown-refused : (g : Figures) (t b : List ℕ) (n : ℕ) (r : Refusal) → checked_of g ≡ Refused r → [] ≡ shown g t b n
+pub shown-refused : (g : Figures) (t b : List ℕ) (n : ℕ) (r : Refusal) → checked_of g ≡ Err r → [] ≡ shown g t b n
 unfolding shown_with shown_by
 shown-refused g t b n r e = rw e
 
-pub writing_as : (g : Figures) (c : Cipher) (t b : List ℕ) (n : ℕ) → checked_of g ≡ As c
+pub writing_as : (g : Figures) (c : Cipher) (t b : List ℕ) (n : ℕ) → checked_of g ≡ Ok c
     → settled sizes (length b) (length (file_bytes g c t b)) n ≡ writing g t b n
 unfolding writing_with writing_by
 writing_as g c t b n e = rw e
 
 shown_by_as : (g : Figures) (c : Cipher) (t b : List ℕ) (w : Written)
-    → bytes_of w (file_bytes g c t b) ≡ shown_by written_block (As c) w g t b
+    → bytes_of w (file_bytes g c t b) ≡ shown_by written_block (Ok c) w g t b
 unfolding shown_by bytes_of
 shown_by_as g c t b (written.Wrote n) = refl
 shown_by_as g c t b (written.Refused r) = refl
 
-pub shown_as : (g : Figures) (c : Cipher) (t b : List ℕ) (n : ℕ) (w : Written) → checked_of g ≡ As c → w ≡ writing g t b n
+pub shown_as : (g : Figures) (c : Cipher) (t b : List ℕ) (n : ℕ) (w : Written) → checked_of g ≡ Ok c → w ≡ writing g t b n
     → bytes_of w (file_bytes g c t b) ≡ shown g t b n
 unfolding shown_with
 shown_as g c t b n w e f =
-    shown_by_as g c t b w ∙ ap (λ (v : Written). shown_by written_block (As c) v g t b) f
-    ∙ ap (λ (x : Checked). shown_by written_block x (writing g t b n) g t b) (sym e)
+    shown_by_as g c t b w ∙ ap (λ (v : Written). shown_by written_block (Ok c) v g t b) f
+    ∙ ap (λ (x : Result Cipher Refusal). shown_by written_block x (writing g t b n) g t b) (sym e)
 
 pub settled-payload : (b f n : ℕ) → leb b payload_limit ≡ false → written.Refused TooLong ≡ settled sizes b f n
 unfolding settled

@@ -1,10 +1,11 @@
 -- `dictionary::repeats::fill` meets its contract. Assumes nothing.
 -- The invariant: the judgement from here, that knows the table's names, is the whole one.
-use mathlib.Core.Path.{◌≡◌, refl, sym, ◌∙◌}
+use mathlib.Core.Path.{◌≡◌, refl, sym, ◌∙◌, ap}
 use Prim.Native.Nat.{◌+◌, ◌-◌}
 use native.Mathlib.Omega.{arith}
 use lib.ListN.{length}
 use borrow.Author.Rules.{rules}
+use Rattle.std.specs.Prelude.{Ok}
 use Rattle.dictionary.specs.Order.{key_at, keys_at, held, Rising}
 use Rattle.dictionary.specs.Repeats.{judge, Filled}
 use Rattle.dictionary.proofs.Laws.Entry.{entry_at_within}
@@ -12,45 +13,47 @@ use Rattle.dictionary.proofs.Laws.Judge.{judge_stopped, judge-held, judge_end, j
 use Rattle.dictionary.proofs.Laws.Table.{added_held, added_new}
 use Rattle.dictionary.proofs.repeats.fill.Goals as goal
 
-pub loop-left-init : goal.loop-left-init
+pub loop-init : goal.loop-init
 unfolding keys_at Rising
-loop-left-init c = (refl, tt, omega arith, refl, omega arith, omega arith)
+loop-init c =
+    let z : length c.args.s.now - 0 ≡ length c.args.s.now = omega arith in
+    (rw z refl, tt, omega arith, refl, omega arith, omega arith)
 
-pub returns-in-End : goal.returns-in-End
+pub returns-in-Ok-None : goal.returns-in-Ok-None
 unfolding Filled
-returns-in-End c =
-    let l = c.loop-left in
+returns-in-Ok-None c =
+    let l = c.loop in
     let a = c.args in
-    judge_end a.stop l.left a.s.now (held a.s.now a.from l.n l.t) l.at (search rules)
-    (sym c.entry_at.ensures.value ∙ c.in-End.is) ∙ l.invariant.0
+    judge_end a.stop (length a.s.now - l.counter) a.s.now (held a.s.now a.from l.n l.t) l.at (search rules)
+    (sym c.entry_at.ensures.value ∙ c.in-Ok-None.is ∙ ap Ok c.in-Ok-None.field-0-is) ∙ l.invariant.0
 
-pub returns-in-Broken : goal.returns-in-Broken
+pub returns-in-Err : goal.returns-in-Err
 unfolding Filled
-returns-in-Broken c =
-    let l = c.loop-left in
+returns-in-Err c =
+    let l = c.loop in
     let a = c.args in
-    judge_broken a.stop l.left a.s.now (held a.s.now a.from l.n l.t) l.at (search rules)
-    c.in-Broken.b (sym c.entry_at.ensures.value ∙ c.in-Broken.is) ∙ l.invariant.0
+    judge_broken a.stop (length a.s.now - l.counter) a.s.now (held a.s.now a.from l.n l.t) l.at (search rules)
+    c.in-Err.b (sym c.entry_at.ensures.value ∙ c.in-Err.is) ∙ l.invariant.0
 
 pub returns-then-stop-at : goal.returns-then-stop-at
 unfolding Filled
 returns-then-stop-at c =
-    let l = c.loop-left in
+    let l = c.loop in
     let a = c.args in
-    judge_stopped a.stop l.left a.s.now (held a.s.now a.from l.n l.t) l.at (search rules)
-    c.in-Item.i (sym c.entry_at.ensures.value ∙ c.in-Item.is) c.if-stop-at.true ∙ l.invariant.0
+    judge_stopped a.stop (length a.s.now - l.counter) a.s.now (held a.s.now a.from l.n l.t) l.at (search rules)
+    c.in-Ok-Some.i (sym c.entry_at.ensures.value ∙ c.in-Ok-Some.is ∙ ap Ok c.in-Ok-Some.field-0-is) c.if-stop-at.true ∙ l.invariant.0
 
 pub returns-then-n-t : goal.returns-then-n-t
 unfolding Filled
 returns-then-n-t c =
-    let l = c.loop-left in
+    let l = c.loop in
     let w =
-    entry_at_within c.args.s.now l.at c.in-Item.i (sym c.entry_at.ensures.value ∙ c.in-Item.is) in
+    entry_at_within c.args.s.now l.at c.in-Ok-Some.i (sym c.entry_at.ensures.value ∙ c.in-Ok-Some.is ∙ ap Ok c.in-Ok-Some.field-0-is) in
     record {
       within = omega arith;
       rising = l.invariant.1;
       rest =
-          judge_enough c.args.stop (length c.args.s.now) l.left c.args.s.now
+          judge_enough c.args.stop (length c.args.s.now) (length c.args.s.now - l.counter) c.args.s.now
           (held c.args.s.now c.args.from l.n l.t) l.at (omega arith) (omega arith)
           ∙ l.invariant.0;
       further = omega arith;
@@ -63,14 +66,14 @@ overflow_sub-place c = omega arith
 pub returns-then-place-gt4294967295 : goal.returns-then-place-gt4294967295
 unfolding Filled
 returns-then-place-gt4294967295 c =
-    let l = c.loop-left in
+    let l = c.loop in
     let w =
-    entry_at_within c.args.s.now l.at c.in-Item.i (sym c.entry_at.ensures.value ∙ c.in-Item.is) in
+    entry_at_within c.args.s.now l.at c.in-Ok-Some.i (sym c.entry_at.ensures.value ∙ c.in-Ok-Some.is ∙ ap Ok c.in-Ok-Some.field-0-is) in
     record {
       within = omega arith;
       rising = l.invariant.1;
       rest =
-          judge_enough c.args.stop (length c.args.s.now) l.left c.args.s.now
+          judge_enough c.args.stop (length c.args.s.now) (length c.args.s.now - l.counter) c.args.s.now
           (held c.args.s.now c.args.from l.n l.t) l.at (omega arith) (omega arith)
           ∙ l.invariant.0;
       further = omega arith;
@@ -79,9 +82,9 @@ returns-then-place-gt4294967295 c =
 
 pub add-requires : goal.add-requires
 add-requires c =
-    let l = c.loop-left in
+    let l = c.loop in
     let w =
-    entry_at_within c.args.s.now l.at c.in-Item.i (sym c.entry_at.ensures.value ∙ c.in-Item.is) in
+    entry_at_within c.args.s.now l.at c.in-Ok-Some.i (sym c.entry_at.ensures.value ∙ c.in-Ok-Some.is ∙ ap Ok c.in-Ok-Some.field-0-is) in
     record {
       n_in_bounds = omega arith;
       place_in_bounds = omega (arith, w);
@@ -92,7 +95,7 @@ pub returns-then-add : goal.returns-then-add
 unfolding Filled
 returns-then-add c =
     let u = c.if-stop-at.false in
-    let l = c.loop-left in
+    let l = c.loop in
     let a = c.args in
     let ks = held a.s.now a.from l.n l.t in
     let p : a.from + (l.at - a.from) ≡ l.at = omega arith in
@@ -100,23 +103,23 @@ returns-then-add c =
     added_held (key_at a.s.now (a.from + (l.at - a.from))) ks
     (held a.s.now a.from (l.n + 1) c.add.new.t)
     c.add.result c.add.ensures c.if-add.true in
-    judge-held a.stop l.left a.s.now ks l.at (search rules) c.in-Item.i
-    (sym c.entry_at.ensures.value ∙ c.in-Item.is) u (rw p at f) ∙ l.invariant.0
+    judge-held a.stop (length a.s.now - l.counter) a.s.now ks l.at (search rules) c.in-Ok-Some.i
+    (sym c.entry_at.ensures.value ∙ c.in-Ok-Some.is ∙ ap Ok c.in-Ok-Some.field-0-is) u (rw p at f) ∙ l.invariant.0
 
 pub overflow_add-n : goal.overflow_add-n
 overflow_add-n c = omega arith
 
 pub overflow_add-at : goal.overflow_add-at
 overflow_add-at c =
-    let l = c.loop-left in
+    let l = c.loop in
     let a = c.args in
-    let w = entry_at_within a.s.now l.at c.in-Item.i (sym c.entry_at.ensures.value ∙ c.in-Item.is) in
+    let w = entry_at_within a.s.now l.at c.in-Ok-Some.i (sym c.entry_at.ensures.value ∙ c.in-Ok-Some.is ∙ ap Ok c.in-Ok-Some.field-0-is) in
     omega (arith, w)
 
-pub loop-left-preserved : goal.loop-left-preserved
-loop-left-preserved c =
+pub loop-preserved : goal.loop-preserved
+loop-preserved c =
     let u = c.if-stop-at.false in
-    let l = c.loop-left in
+    let l = c.loop in
     let a = c.args in
     let s = a.s.now in
     let ks = held s a.from l.n l.t in
@@ -125,9 +128,10 @@ loop-left-preserved c =
     let f =
     added_new (key_at s (a.from + (l.at - a.from))) ks ls c.add.result c.add.ensures c.if-add.false in
     let g = rw p at f in
-    let q = sym c.entry_at.ensures.value ∙ c.in-Item.is in
-    let w = entry_at_within s l.at c.in-Item.i q in (
-      judge_added a.stop l.left s ks ls l.at c.in-Item.i (search rules) q u g.0 g.2 ∙ l.invariant.0,
+    let q = sym c.entry_at.ensures.value ∙ c.in-Ok-Some.is ∙ ap Ok c.in-Ok-Some.field-0-is in
+    let less : length s - (l.counter + 1) ≡ length s - l.counter - 1 = omega arith in
+    let w = entry_at_within s l.at c.in-Ok-Some.i q in (
+      rw less (judge_added a.stop (length s - l.counter) s ks ls l.at c.in-Ok-Some.i (search rules) q u g.0 g.2 ∙ l.invariant.0),
       g.1,
       omega (arith, c.add.auto.t),
       c.add.auto.t ∙ l.invariant.3,
@@ -137,13 +141,13 @@ loop-left-preserved c =
 
 pub returns : goal.returns
 unfolding Filled judge
-returns c = let z : c.loop-left.left ≡ 0 = omega arith in rw (← c.loop-left.invariant.0, z)
+returns c = let z : length c.args.s.now - c.loop.counter ≡ 0 = omega arith in rw (← c.loop.invariant.0, z)
 
-pub shape_of-t-in-End : goal.shape_of-t-in-End
-shape_of-t-in-End c = omega arith
+pub shape_of-t-in-Ok-None : goal.shape_of-t-in-Ok-None
+shape_of-t-in-Ok-None c = omega arith
 
-pub shape_of-t-in-Broken : goal.shape_of-t-in-Broken
-shape_of-t-in-Broken c = omega arith
+pub shape_of-t-in-Err : goal.shape_of-t-in-Err
+shape_of-t-in-Err c = omega arith
 
 pub shape_of-t-then-stop-at : goal.shape_of-t-then-stop-at
 shape_of-t-then-stop-at c = omega arith

@@ -9,11 +9,11 @@ use borrow.Author.Rules.{rules}
 use Rattle.dictionary.proofs.Laws.Judge.{judge_past, filled_done, filled_full, full_met}
 use Rattle.dictionary.proofs.repeats.judge.Goals as goal
 
-pub loop-left-init : goal.loop-left-init
-loop-left-init c = (refl, length-replicate {A = ℕ} 4096 0, omega arith, omega arith)
+pub loop-init : goal.loop-init
+loop-init c = (refl, length-replicate {A = ℕ} 4096 0, omega arith, omega arith)
 
 pub slice_bounds-fill-end : goal.slice_bounds-fill-end
-slice_bounds-fill-end c = sym c.loop-left.invariant.1
+slice_bounds-fill-end c = sym c.loop.invariant.1
 
 pub fill-requires : goal.fill-requires
 fill-requires c =
@@ -27,7 +27,7 @@ enum_known-o c = search rules
 
 pub returns-in-Done : goal.returns-in-Done
 returns-in-Done c =
-    let l = c.loop-left in
+    let l = c.loop in
     let s = c.args.s.now in
     filled_done s l.at l.stop c.fill.new.t c.fill.result c.in-Done.o
     c.fill.ensures c.in-Done.is
@@ -38,11 +38,11 @@ enum_known-held c = search rules
 
 pub slice_bounds-met-end : goal.slice_bounds-met-end
 slice_bounds-met-end c =
-    sym (c.fill.auto.t ∙ c.loop-left.invariant.1)
+    sym (c.fill.auto.t ∙ c.loop.invariant.1)
 
 pub met-stop-requires : goal.met-stop-requires
 met-stop-requires c =
-    let l = c.loop-left in
+    let l = c.loop in
     let s = c.args.s.now in
     let u =
     filled_full s l.at l.stop c.fill.new.t c.fill.result c.in-Full.held c.in-Full.next c.fill.ensures
@@ -53,9 +53,9 @@ met-stop-requires c =
       rising = u.rising;
     }
 
-pub loop-left-preserved : goal.loop-left-preserved
-loop-left-preserved c =
-    let l = c.loop-left in
+pub loop-preserved : goal.loop-preserved
+loop-preserved c =
+    let l = c.loop in
     let s = c.args.s.now in
     let u =
     filled_full s l.at l.stop c.fill.new.t c.fill.result c.in-Full.held c.in-Full.next c.fill.ensures
@@ -70,6 +70,6 @@ loop-left-preserved c =
 
 pub returns : goal.returns
 returns c =
-    let l = c.loop-left in
+    let l = c.loop in
     let s = c.args.s.now in
     sym (judge_past l.stop (length s) s [] l.at (omega arith)) ∙ l.invariant.0

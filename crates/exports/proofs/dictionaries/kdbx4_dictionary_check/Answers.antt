@@ -4,4 +4,4 @@ use Rattle.exports.proofs.dictionaries.kdbx4_dictionary_check.Goals as goal
 
 pub returns : goal.returns
 returns c =
-    answer-said c.check-answer.ensures.result_value c.number.ensures c.place.ensures
+    answer-said c.check-answer.ensures.result_value c.verdict_number.ensures c.verdict_place.ensures

@@ -1,12 +1,20 @@
 -- `exports::inner::kdbx4_attachment` meets its contract. Assumes nothing.
+use mathlib.Core.Path.{◌∙◌}
+use Rattle.inner_header.proofs.Laws.Told.{number_attachment, place_attachment}
 use Rattle.exports.proofs.Laws.{answer_values, answer_no_values}
 use Rattle.exports.proofs.inner.kdbx4_attachment.Goals as goal
 
 pub returns-then-number-ne0 : goal.returns-then-number-ne0
 returns-then-number-ne0 c =
-    answer_no_values _ c.find_attachment-answer.ensures.result_value c.number-number.ensures c.place.ensures c.if-number-ne0.true
+    let a = c.find_attachment-answer in
+    answer_no_values _ a.ensures.result_value (c.number-number.ensures ∙ number_attachment a.result)
+    (c.place.ensures ∙ place_attachment a.result)
+    c.if-number-ne0.true
 
 pub returns : goal.returns
 returns c =
-    answer_values _ c.find_attachment-answer.ensures.result_value c.number-number.ensures c.place.ensures
-    c.values.ensures c.if-number-ne0.false
+    let a = c.find_attachment-answer in
+    answer_values _ a.ensures.result_value (c.number-number.ensures ∙ number_attachment a.result)
+    (c.place.ensures ∙ place_attachment a.result)
+    c.attachment_values.ensures
+    c.if-number-ne0.false

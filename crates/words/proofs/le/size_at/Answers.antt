@@ -9,6 +9,6 @@ pub returns-then-n-lt2147483648 : goal.returns-then-n-lt2147483648
 unfolding int32
 returns-then-n-lt2147483648 c = said_too said (rw (← c.u32_at-n.ensures, lt-ltb _ _ c.if-n-lt2147483648.true))
 
-pub returns : goal.returns
+pub returns-else-n-lt2147483648 : goal.returns-else-n-lt2147483648
 unfolding int32
-returns c = said_too said (rw (← c.u32_at-n.ensures, le-ltb _ _ c.if-n-lt2147483648.false))
+returns-else-n-lt2147483648 c = said_too said (rw (← c.u32_at-n.ensures, le-ltb _ _ c.if-n-lt2147483648.false))

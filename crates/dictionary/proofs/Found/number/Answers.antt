@@ -1,8 +1,0 @@
--- `dictionary::Found::number` meets its contract. Assumes nothing.
-use mathlib.Core.Path.{sym, ap, ◌∙◌}
-use Rattle.dictionary.specs.declared.Found.{Found}
-use Rattle.dictionary.specs.Answers.{said_found}
-use Rattle.dictionary.proofs.Found.number.Goals as goal
-
-pub returns-in-Refused : goal.returns-in-Refused
-returns-in-Refused c = c.number.ensures ∙ ap (λ (a : Found). (said_found a).number) (sym c.in-Refused.is)

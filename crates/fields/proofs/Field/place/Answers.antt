@@ -1,8 +1,0 @@
--- `fields::Field::place` meets its contract. Assumes nothing.
-use mathlib.Core.Path.{sym, ap, ◌∙◌}
-use Rattle.fields.specs.declared.Field.{Field}
-use Rattle.fields.specs.Answers.{said}
-use Rattle.fields.proofs.Field.place.Goals as goal
-
-pub returns-in-Refused : goal.returns-in-Refused
-returns-in-Refused c = c.place.ensures ∙ ap (λ (a : Field). (said a).place) (sym c.in-Refused.is)
