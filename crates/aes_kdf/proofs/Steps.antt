@@ -16,6 +16,7 @@
 --   helpings_end              .. in one statement: after so many or more T is the definition's, and before it is 19
 --   key_of_no_rounds          R = 0 has T from the start
 -- Assumes nothing.
+use Rattle.std.specs.Prelude.{Ok, Err}
 use mathlib.Core.Path.{◌≡◌, refl, sym, ap, ◌∙◌}
 use mathlib.Core.List.{List, [], ◌∷◌}
 use Prim.Native.Nat.{ℕ, zero, suc, ◌+◌, ◌-◌, ◌*◌, ◌≤◌, ◌<◌, min}
@@ -27,7 +28,6 @@ use borrow.Author.Tests.{eq-eqb, ne_eqb, le-leb, leb-true}
 use Rattle.words.specs.Sums.{total}
 use Rattle.words.proofs.Laws.Cases.{by_bool}
 use Rattle.refusals.specs.declared.Refusal.TheVariants.{OutOfSequence}
-use Rattle.refusals.specs.declared.Outcome.TheVariants.{Accepted, Refused}
 use Rattle.refusals.specs.Limits.{rounds_limit}
 use Rattle.aes_kdf.specs.declared.Transformation.{Transformation}
 use Rattle.aes_kdf.specs.declared.Transformed.{Transformed}
@@ -99,33 +99,33 @@ module _ (c s : List ℕ) (r : ℕ) (within : r ≤ rounds_limit) where
 
   -- T's answer by the rounds done
   finish_after : (d : ℕ) → d ≡ r → kdf.finish (after c s r d) ≡ record {
-    outcome = Accepted;
+    outcome = Ok tt;
     key = transformed_key c s r;
   }
   unfolding kdf.finish after transformed_key
   finish_after d e = rw (e, open_after c s r within r (omega arith), eq-eqb r r refl)
 
   finish_early : (d : ℕ) → d ≤ r → (d ≡ r → ⊥)
-      → kdf.finish (after c s r d) ≡ record { outcome = Refused OutOfSequence; key = replicate 32 0 }
+      → kdf.finish (after c s r d) ≡ record { outcome = Err OutOfSequence; key = replicate 32 0 }
   unfolding kdf.finish after
   finish_early d l n = rw (open_after c s r within d l, ne_eqb d r n)
 
   pub key_at_end : (ns : List ℕ) → done_by r ns 0 ≡ r
-      → finished (advances ns (started c s r).next) ≡ record { outcome = Accepted; key = transformed_key c s r }
+      → finished (advances ns (started c s r).next) ≡ record { outcome = Ok tt; key = transformed_key c s r }
   key_at_end ns e =
       ap answered (ap kdf.finish (transformation_of_steps ns) ∙ finish_after (done_by r ns 0) e)
 
   pub key_too_early : (ns : List ℕ) → (done_by r ns 0 ≡ r → ⊥)
-      → finished (advances ns (started c s r).next) ≡ record { outcome = Refused OutOfSequence; key = replicate 32 0 }
+      → finished (advances ns (started c s r).next) ≡ record { outcome = Err OutOfSequence; key = replicate 32 0 }
   key_too_early ns n =
       ap answered (ap kdf.finish (transformation_of_steps ns)
       ∙ finish_early (done_by r ns 0) (done_by-le r ns 0 (omega arith)) n)
 
-  pub key_in_one_step : finished (advanced r (started c s r).next) ≡ record { outcome = Accepted; key = transformed_key c s r }
+  pub key_in_one_step : finished (advanced r (started c s r).next) ≡ record { outcome = Ok tt; key = transformed_key c s r }
   unfolding advances done_by
   key_in_one_step = key_at_end (r ∷ []) (omega arith)
 
-pub started_within : (c s : List ℕ) (r : ℕ) → (started c s r).outcome ≡ Accepted → r ≤ rounds_limit
+pub started_within : (c s : List ℕ) (r : ℕ) → (started c s r).outcome ≡ (Ok tt) → r ≤ rounds_limit
 unfolding kdf.start
 started_within c s r e =
     by_bool (leb r rounds_limit) (leb-true r rounds_limit)
@@ -166,7 +166,7 @@ helpings_end c s r n w h =
 
 -- "R = 0 is at its end from the start"
 pub key_of_no_rounds : (c s : List ℕ) → finished (started c s 0).next ≡ record {
-  outcome = Accepted;
+  outcome = Ok tt;
   key = transformed_key c s 0;
 }
 unfolding advances done_by

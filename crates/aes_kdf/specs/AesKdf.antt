@@ -12,10 +12,9 @@
 --   "T before the end is 19; R = 0 is at its end from the start"              finish
 -- A state that is refused, or that no call could have made, has no rounds remaining and is never at its end.
 -- Assumes nothing.
-use Rattle.std.specs.Prelude.{Bool, true, false, cond, ◌&&◌, List, [], ◌∷◌, ◌++◌, ℕ, ◌+◌, ◌-◌, min, eqb, leb, take, drop, replicate}
+use Rattle.std.specs.Prelude.{Bool, true, false, cond, ◌&&◌, List, [], ◌∷◌, ◌++◌, ℕ, ◌+◌, ◌-◌, min, eqb, leb, take, drop, replicate, Ok, Err}
 use Rattle.refusals.specs.declared.Refusal.TheVariants.{TooManyRounds, OutOfSequence}
-use Rattle.refusals.specs.declared.Outcome.{Outcome}
-use Rattle.refusals.specs.declared.Outcome.TheVariants.{Accepted, Refused}
+use Rattle.refusals.specs.Numbers.{Outcome}
 use Rattle.refusals.specs.Limits.{rounds_limit}
 use Rattle.fips180.specs.Fips180.{sha256, hash}
 use Rattle.fips197.specs.Fips197.{cipher, key_expansion}
@@ -76,8 +75,8 @@ refused =
 unfoldable pub start : List ℕ → List ℕ → ℕ → Started
 start composite seed r =
     cond (leb r rounds_limit)
-    (record { outcome = Accepted; next = after composite seed r 0 })
-    (record { outcome = Refused (TooManyRounds 0); next = refused })
+    (record { outcome = Ok tt; next = after composite seed r 0 })
+    (record { outcome = Err (TooManyRounds 0); next = refused })
 
 -- accepted, with no more rounds asked for than the limit and no more done than asked for
 unfoldable pub is_open : Transforming → Bool
@@ -101,8 +100,8 @@ advanced n t =
 unfoldable pub finish : Transforming → Transformed
 finish t =
     cond (is_open t && eqb t.done t.rounds)
-    (record { outcome = Accepted; key = hash sha256 (t.left ++ t.right) })
-    (record { outcome = Refused OutOfSequence; key = replicate 32 0 })
+    (record { outcome = Ok tt; key = hash sha256 (t.left ++ t.right) })
+    (record { outcome = Err OutOfSequence; key = replicate 32 0 })
 
 -- a list of steps, one after the other
 unfoldable pub advances : List ℕ → Transforming → Transforming

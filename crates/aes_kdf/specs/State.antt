@@ -5,10 +5,9 @@
 -- joined (its functions), advances (a list of steps), Adds (one step behind another), rounded_up, helpings, EndsWithin
 -- (steps of n rounds each).
 -- Assumes nothing.
-use Rattle.std.specs.Prelude.{◌≡◌, Bool, true, false, List, [], ◌∷◌, ◌++◌, ℕ, ◌+◌, ◌-◌, ◌/◌, ◌≤◌, ◌<◌, replicate}
+use Rattle.std.specs.Prelude.{◌≡◌, Bool, true, false, List, [], ◌∷◌, ◌++◌, ℕ, ◌+◌, ◌-◌, ◌/◌, ◌≤◌, ◌<◌, replicate, Ok, Err}
 use Rattle.words.specs.Sums.{total}
 use Rattle.refusals.specs.declared.Refusal.TheVariants.{OutOfSequence}
-use Rattle.refusals.specs.declared.Outcome.TheVariants as outcomes
 use Rattle.fips180.specs.Fips180.{sha256, hash}
 use Rattle.aes_kdf.specs.AesKdf as kdf
 use Rattle.aes_kdf.specs.AesKdf.{Transforming, transformed_key, after}
@@ -62,7 +61,7 @@ finished t = record { outcome = (kdf.finish (held t)).outcome; key = (kdf.finish
 
 -- SHA-256 of the two halves, as an accepted answer
 abbrev pub joined : Transformation → Transformed
-joined t = record { outcome = outcomes.Accepted; key = hash sha256 (t.left ++ t.right) }
+joined t = record { outcome = Ok tt; key = hash sha256 (t.left ++ t.right) }
 
 -- the state after a list of steps
 unfoldable pub advances : List ℕ → Transformation → Transformation
@@ -90,10 +89,10 @@ helpings c s r n j = advances (replicate j n) (started c s r).next
 pub record EndsWithin (c s : List ℕ) (r n : ℕ) : Type 0 where
   pub all_done : (j : ℕ) → rounded_up r n ≤ j → held (helpings c s r n j) ≡ after c s r r
   pub key_then : (j : ℕ) → rounded_up r n ≤ j → finished (helpings c s r n j) ≡ record {
-    outcome = outcomes.Accepted;
+    outcome = Ok tt;
     key = transformed_key c s r;
   }
   pub none_before : (j : ℕ) → j < rounded_up r n → finished (helpings c s r n j) ≡ record {
-    outcome = outcomes.Refused OutOfSequence;
+    outcome = Err OutOfSequence;
     key = replicate 32 0;
   }

@@ -12,7 +12,7 @@ ghost use Rattle.aes_kdf.specs.AesKdf as kdf;
 ghost use Rattle.aes_kdf.specs.State as state;
 
 use aes::RoundKeys;
-use refusals::{Outcome, Refusal};
+use refusals::Refusal;
 use sha256::Sha256;
 
 // Whether the rounds were accepted.
@@ -36,14 +36,14 @@ pub struct Transformation {
 // The answer of a start, and the state.
 #[derive(Clone, Copy)]
 pub struct Started {
-    pub outcome: Outcome,
+    pub outcome: Result<(), Refusal>,
     pub next: Transformation,
 }
 
 // The transformed key T: zeros where it is refused.
 #[derive(Clone, Copy)]
 pub struct Transformed {
-    pub outcome: Outcome,
+    pub outcome: Result<(), Refusal>,
     pub key: [u8; 32],
 }
 
@@ -68,7 +68,7 @@ impl Transformation {
             slices::copy(&mut left, &composite);
             slices::copy(&mut right, &composite[16..]);
             return Started {
-                outcome: Outcome::Accepted,
+                outcome: Ok(()),
                 next: Transformation {
                     mark: Mark::Accepted,
                     keys: RoundKeys::expand(seed),
@@ -80,7 +80,7 @@ impl Transformation {
             };
         }
         Started {
-            outcome: Outcome::Refused(Refusal::TooManyRounds(0)),
+            outcome: Err(Refusal::TooManyRounds(0)),
             next: Transformation::refuse(),
         }
     }
@@ -149,7 +149,7 @@ impl Transformation {
             return self.joined();
         }
         Transformed {
-            outcome: Outcome::Refused(Refusal::OutOfSequence),
+            outcome: Err(Refusal::OutOfSequence),
             key: [0u8; 32],
         }
     }
@@ -162,7 +162,7 @@ impl Transformation {
         let right = self.right;
         let key = Sha256::start().feed(&left).next.feed(&right).next.finish();
         Transformed {
-            outcome: Outcome::Accepted,
+            outcome: Ok(()),
             key,
         }
     }

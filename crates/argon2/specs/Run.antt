@@ -8,11 +8,10 @@
 -- A refusal leaves the memory and the output as they were.
 -- Not here: RFC 9106 (Rfc9106); the bounds of 22 (crate refusals, Limits: argon2_fits).
 -- Assumes nothing.
-use Rattle.std.specs.Prelude.{cond, List, [], ℕ, ◌*◌, ◌/◌, leb, ltb, length, replicate}
+use Rattle.std.specs.Prelude.{cond, List, [], ℕ, ◌*◌, ◌/◌, leb, ltb, length, replicate, Ok, Err}
 use Rattle.slices.specs.Over.{over}
 use Rattle.refusals.specs.declared.Refusal.TheVariants.{TooLong, NoRoom, FigureOutside}
-use Rattle.refusals.specs.declared.Outcome.{Outcome}
-use Rattle.refusals.specs.declared.Outcome.TheVariants.{Accepted, Refused}
+use Rattle.refusals.specs.Numbers.{Outcome}
 use Rattle.refusals.specs.Limits.{message_limit, argon2_fits}
 use Rattle.argon2_fill.specs.Rfc9106.{blocks}
 use Rattle.argon2.specs.Rfc9106.{Inputs, prehash, figures, tag}
@@ -49,19 +48,19 @@ unfoldable pub outcome : Inputs → ℕ → ℕ → Outcome
 outcome i bytes lent =
     cond (argon2_fits (length i.salt) i.passes bytes i.lanes)
     (cond (leb (length (prehash i)) message_limit)
-    (cond (ltb lent (used i)) (Refused NoRoom) Accepted)
-    (Refused TooLong))
-    (Refused (FigureOutside 0))
+    (cond (ltb lent (used i)) (Err NoRoom) (Ok tt))
+    (Err TooLong))
+    (Err (FigureOutside 0))
 
 -- the memory m after a run: its used part as zeros
 unfoldable pub left : Outcome → Inputs → List ℕ → List ℕ
-left Accepted i m = over (replicate (used i) 0) m
-left (Refused r) i m = m
+left (Ok tt) i m = over (replicate (used i) 0) m
+left (Err r) i m = m
 
 -- the output d after a run: the tag
 unfoldable pub shown : Outcome → Inputs → List ℕ → List ℕ
-shown Accepted i d = tag i
-shown (Refused r) i d = d
+shown (Ok tt) i d = tag i
+shown (Err r) i d = d
 
 -- a vault's inputs: kind, composite key, salt, I, M, P
 abbrev pub vault_inputs : Kind → List ℕ → List ℕ → ℕ → ℕ → ℕ → Inputs
@@ -73,5 +72,5 @@ transformed_key kind composite salt passes bytes lanes = tag (vault_inputs kind 
 
 -- a vault's answer: its outcome with so many words lent, and T, zeros where it is refused
 unfoldable pub transformed : Outcome → Inputs → Transformed
-transformed Accepted i = record { outcome = Accepted; key = tag i }
-transformed (Refused r) i = record { outcome = Refused r; key = replicate 32 0 }
+transformed (Ok tt) i = record { outcome = Ok tt; key = tag i }
+transformed (Err r) i = record { outcome = Err r; key = replicate 32 0 }

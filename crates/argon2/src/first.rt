@@ -27,7 +27,7 @@ fn first_bytes(h: [u8; 64], i: u32, j: u32) -> [u8; 1024]
     ensures { result ≡ long_hash 1024 (h ++ (le_bytes 4 j ++ le_bytes 4 i)) }
 {
     let mut out = [0u8; 1024];
-    argon2_hash::fill(&seed_of(h, i, j), &mut out);
+    let _ = argon2_hash::fill(&seed_of(h, i, j), &mut out);
     out
 }
 

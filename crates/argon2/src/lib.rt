@@ -16,7 +16,7 @@ ghost use Rattle.argon2.specs.Rfc9106 as rfc9106;
 ghost use Rattle.argon2.specs.Run as run;
 
 use argon2_fill::Figures;
-use refusals::{Outcome, Refusal};
+use refusals::Refusal;
 
 mod first;
 mod last;
@@ -32,7 +32,7 @@ pub enum Kind {
 // The transformed key T: zeros where it is refused.
 #[derive(Clone, Copy)]
 pub struct Transformed {
-    pub outcome: Outcome,
+    pub outcome: Result<(), Refusal>,
     pub key: [u8; 32],
 }
 
@@ -64,7 +64,7 @@ fn fill_tag(memory: &mut [u64], f: Figures, h: [u8; 64], out: &mut [u8])
     first::put_first_blocks(memory, f, h);
     argon2_fill::fill(memory, f);
     let c = last::bytes_of(last::last_column(memory, f));
-    argon2_hash::fill(&c, out);
+    let _ = argon2_hash::fill(&c, out);
     memory.fill(0);
 }
 
@@ -80,16 +80,16 @@ pub fn hash(
     lanes: u32,
     memory: &mut [u64],
     out: &mut [u8],
-) -> Outcome
+) -> Result<(), Refusal>
     ensures value { result ≡ run.outcome (run.inputs kind password.now salt.now secret.now associated.now passes bytes lanes (length out.old)) bytes (length memory.old) }
     ensures memory_after { memory.new ≡ run.left result (run.inputs kind password.now salt.now secret.now associated.now passes bytes lanes (length out.old)) memory.old }
     ensures out_after { out.new ≡ run.shown result (run.inputs kind password.now salt.now secret.now associated.now passes bytes lanes (length out.old)) out.old }
 {
     if !refusals::limits::argon2_figures_fit(salt.len(), passes, bytes, lanes) {
-        return Outcome::Refused(Refusal::FigureOutside(0));
+        return Err(Refusal::FigureOutside(0));
     }
     if !prehash::fits(password.len(), salt.len(), secret.len(), associated.len()) {
-        return Outcome::Refused(Refusal::TooLong);
+        return Err(Refusal::TooLong);
     }
     let m = kib_of(bytes);
     let y = number_of(kind);
@@ -103,7 +103,7 @@ pub fn hash(
     let blocks = f.lanes * (4 * f.segment);
     let words = blocks * 128;
     if memory.len() < words {
-        return Outcome::Refused(Refusal::NoRoom);
+        return Err(Refusal::NoRoom);
     }
     let h = prehash::h0(
         y,
@@ -117,7 +117,7 @@ pub fn hash(
         associated,
     );
     fill_tag(&mut memory[..words], f, h, out);
-    Outcome::Accepted
+    Ok(())
 }
 
 // T of a vault's composite key: salt S, passes I, memory M in bytes, lanes P.

@@ -6,11 +6,10 @@
 -- What `fill` makes of a lent slice is here too: filled, fill_outcome.
 -- Differs: T is any number, where the RFC has 1 to 2^32 - 1; LE32(T) has its low 32 bits.
 -- Assumes nothing.
-use Rattle.std.specs.Prelude.{cond, List, [], ◌++◌, ℕ, zero, suc, ◌+◌, ◌-◌, ◌*◌, ◌/◌, leb, length, take}
+use Rattle.std.specs.Prelude.{cond, List, [], ◌++◌, ℕ, zero, suc, ◌+◌, ◌-◌, ◌*◌, ◌/◌, leb, length, take, Ok, Err}
 use Rattle.words.specs.Endian.{le_bytes}
 use Rattle.refusals.specs.declared.Refusal.TheVariants.{TooLong}
-use Rattle.refusals.specs.declared.Outcome.{Outcome}
-use Rattle.refusals.specs.declared.Outcome.TheVariants.{Accepted, Refused}
+use Rattle.refusals.specs.Numbers.{Outcome}
 use Rattle.refusals.specs.Limits.{message_limit}
 use Rattle.blake2b.specs.Rfc7693.{blake2b}
 
@@ -41,4 +40,4 @@ unfoldable pub filled : List ℕ → List ℕ → List ℕ
 filled a d = cond (leb (4 + length a) message_limit) (long_hash (length d) a) d
 
 unfoldable pub fill_outcome : List ℕ → Outcome
-fill_outcome a = cond (leb (4 + length a) message_limit) Accepted (Refused TooLong)
+fill_outcome a = cond (leb (4 + length a) message_limit) (Ok tt) (Err TooLong)

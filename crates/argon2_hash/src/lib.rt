@@ -11,7 +11,7 @@ ghost use Rattle.blake2b.specs.Rfc7693 as rfc7693;
 ghost use Rattle.argon2_hash.specs.LongHash as h;
 
 use blake2b::Blake2b;
-use refusals::{Outcome, Refusal};
+use refusals::Refusal;
 
 // H^(nn) of a length and a message: the digest is the first nn bytes.
 fn first_value(nn: u8, size: usize, message: &[u8]) -> [u8; 64]
@@ -60,17 +60,17 @@ fn fill_longer(message: &[u8], out: &mut [u8])
 }
 
 // 3.3: fills `out` with H' of its length of `message`.
-pub fn fill(message: &[u8], out: &mut [u8]) -> Outcome
+pub fn fill(message: &[u8], out: &mut [u8]) -> Result<(), Refusal>
     ensures value { result ≡ h.fill_outcome message.now }
     ensures out_after { out.new ≡ h.filled message.now out.old }
 {
     if refusals::limits::MESSAGE_LIMIT - 4 < message.len() {
-        return Outcome::Refused(Refusal::TooLong);
+        return Err(Refusal::TooLong);
     }
     if out.len() <= 64 {
         fill_short(message, out);
-        return Outcome::Accepted;
+        return Ok(());
     }
     fill_longer(message, out);
-    Outcome::Accepted
+    Ok(())
 }

@@ -5,9 +5,8 @@
 -- limit, which no call makes, refuses every feed, the empty one too.
 -- Not here: the RFC (Rfc7693); that a state so fed gives its hash (proofs, Laws.Feeding and Parts).
 -- Assumes nothing.
-use Rattle.std.specs.Prelude.{true, cond, List, [], ◌∷◌, ◌++◌, ℕ, ◌+◌, ◌-◌, ◌*◌, leb, length, take, replicate}
+use Rattle.std.specs.Prelude.{true, cond, List, [], ◌∷◌, ◌++◌, ℕ, ◌+◌, ◌-◌, ◌*◌, leb, length, take, replicate, Ok, Err}
 use Rattle.refusals.specs.declared.Refusal.TheVariants.{TooLong}
-use Rattle.refusals.specs.declared.Outcome.TheVariants.{Accepted, Refused}
 use Rattle.refusals.specs.Limits.{message_limit}
 use Rattle.blake2b.specs.Rfc7693.{compression_f, blocks_before, padded, initial, chain, last_block, serialize}
 use Rattle.blake2b.specs.declared.Blake2b.{Blake2b}
@@ -38,8 +37,8 @@ absorbed h s =
 unfoldable pub fed : Blake2b → List ℕ → Fed
 fed h s =
     cond (leb (h.total + length s) message_limit)
-    (record { outcome = Accepted; next = absorbed h s })
-    (record { outcome = Refused TooLong; next = h })
+    (record { outcome = Ok tt; next = absorbed h s })
+    (record { outcome = Err TooLong; next = h })
 
 -- the bytes of the final h; the digest of nn bytes is the first nn of them
 unfoldable pub finished : Blake2b → List ℕ

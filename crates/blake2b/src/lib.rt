@@ -11,7 +11,7 @@ ghost use Rattle.std.specs.Prelude.{◌≡◌, ◌+◌, ◌<◌, ◌^◌, length
 ghost use Rattle.blake2b.specs.Rfc7693 as rfc7693;
 ghost use Rattle.blake2b.specs.State as state;
 
-use refusals::{Outcome, Refusal};
+use refusals::Refusal;
 
 mod block;
 mod mixing;
@@ -28,7 +28,7 @@ pub struct Blake2b {
 // A feed's answer, and the next state.
 #[derive(Clone, Copy)]
 pub struct Fed {
-    pub outcome: Outcome,
+    pub outcome: Result<(), Refusal>,
     pub next: Blake2b,
 }
 
@@ -111,13 +111,13 @@ impl Blake2b {
         let most = refusals::limits::MESSAGE_LIMIT;
         if most < total || most - total < s.len() {
             return Fed {
-                outcome: Outcome::Refused(Refusal::TooLong),
+                outcome: Err(Refusal::TooLong),
                 next: self,
             };
         }
         let next = self.absorb(s);
         Fed {
-            outcome: Outcome::Accepted,
+            outcome: Ok(()),
             next,
         }
     }

@@ -7,6 +7,7 @@
 --   kept_unless-wrote             an accepted stretch leaves the bytes of the state behind it
 --   stream_cut_in_two            any 53 bytes: a stretch that is accepted, cut in two
 -- Assumes nothing.
+use Rattle.std.specs.Prelude.{Ok}
 use mathlib.Core.Path.{◌≡◌, refl, sym, ap, ◌∙◌}
 use mathlib.Core.List.{List, ◌++◌}
 use Prim.Native.Nat.{ℕ, ◌≤◌}
@@ -14,8 +15,7 @@ use native.Mathlib.Omega.{arith}
 use lib.ListN.{length, take, drop, length-append}
 use Rattle.words.specs.Endian.{Bytes}
 use Rattle.words.specs.Sums.{total}
-use Rattle.refusals.specs.declared.Written.{Written}
-use Rattle.refusals.specs.declared.Written.TheVariants.{Wrote}
+use Rattle.refusals.specs.Numbers.{Written}
 use Rattle.slices.specs.Over.{over}
 use Rattle.aes_kdf.specs.declared.Transformation.{Transformation}
 use Rattle.aes_kdf.specs.State.{started, advanced}
@@ -82,25 +82,25 @@ advances-add b l h =
       bytes_zero = zero_written b;
     }
 
-pub stream_returned : (b s out : List ℕ) (n : ℕ) → (stretched b s (length out)).written ≡ Wrote n
+pub stream_returned : (b s out : List ℕ) (n : ℕ) → (stretched b s (length out)).written ≡ Ok n
     → StreamReturned b s out
 stream_returned b s out n e =
     let back = state_returned (stream_bytes.unpacked b) s out n e in
     record {
       accepted = λ room h.
           ap (λ (a : Applied). a.written) (back.answer room h) ∙ e
-          ∙ ap Wrote (accepted_long (stream_bytes.unpacked b) s (length out) n e);
+          ∙ ap Ok (accepted_long (stream_bytes.unpacked b) s (length out) n e);
       bytes = back.bytes;
       lent = back.lent;
       leaves = λ room h.
           ap (λ (a : Applied). kept_unless a.written (stream_bytes.packed a.next) b) (back.answer room h);
     }
 
-kept_unless-wrote : (w : Written) (n : ℕ) (next had : List ℕ) → w ≡ Wrote n → kept_unless w next had ≡ next
+kept_unless-wrote : (w : Written) (n : ℕ) (next had : List ℕ) → w ≡ Ok n → kept_unless w next had ≡ next
 kept_unless-wrote w n next had e = rw e
 
 module _ (b : List ℕ) (l : length b ≡ 53) (h : Bytes b) (s t out : List ℕ) (n : ℕ)
-    (e : (stretched b (s ++ t) (length out)).written ≡ Wrote n) where
+    (e : (stretched b (s ++ t) (length out)).written ≡ Ok n) where
   two : StateCutInTwo (stream_bytes.unpacked b) s t out
   two = state_cut_in_two (stream_bytes.unpacked b) s t out n e
 

@@ -12,6 +12,7 @@
 -- An HMAC has no lent state: C has it in one call.
 -- Not here: openings (Theorem).
 -- Assumes nothing.
+use Rattle.std.specs.Prelude.{Ok, Err}
 use mathlib.Core.Path.{◌≡◌, refl, sym, ap, ◌∙◌}
 use mathlib.Core.Bool.{false}
 use mathlib.Core.List.{List, [], ◌∷◌}
@@ -24,8 +25,7 @@ use borrow.Author.Tests.{lt-leb}
 use Rattle.words.specs.Endian.{Bytes}
 use Rattle.words.proofs.Laws.Cases.{by_bool}
 use Rattle.refusals.specs.declared.Refusal.TheVariants.{TooLong, OutOfSequence}
-use Rattle.refusals.specs.declared.Outcome.{Outcome}
-use Rattle.refusals.specs.declared.Outcome.TheVariants as outcome
+use Rattle.refusals.specs.Numbers.{Outcome}
 use Rattle.refusals.specs.Limits.{message_limit, rounds_limit}
 use Rattle.fips180.specs.Fips180 as fips180
 use Rattle.fips180.specs.Hashing as hashing
@@ -78,8 +78,8 @@ unfolding answers_of verdicts hashing.feed_to hashing.absorbed
 sha256-verdicts [] h = refl
 sha256-verdicts (s ∷ ss) h =
     by_bool (leb (h.total + length s) message_limit)
-    (λ t. rw t (ap (λ (l : List Outcome). outcome.Accepted ∷ l) (sha256-verdicts ss (sha256.absorbed h s))))
-    (λ t. rw t (ap (λ (l : List Outcome). outcome.Refused TooLong ∷ l) (sha256-verdicts ss h)))
+    (λ t. rw t (ap (λ (l : List Outcome). (Ok tt) ∷ l) (sha256-verdicts ss (sha256.absorbed h s))))
+    (λ t. rw t (ap (λ (l : List Outcome). Err TooLong ∷ l) (sha256-verdicts ss h)))
 
 pub sha256-feeds : (ss : List (List ℕ))
     → FeedsAgree sha256_calls fips180.sha256 sha256.started sha256.feeds sha256.finished ss
@@ -105,8 +105,8 @@ unfolding answers_of verdicts hashing.feed_to hashing.absorbed
 sha512-verdicts [] h = refl
 sha512-verdicts (s ∷ ss) h =
     by_bool (leb (h.total + length s) message_limit)
-    (λ t. rw t (ap (λ (l : List Outcome). outcome.Accepted ∷ l) (sha512-verdicts ss (sha512.absorbed h s))))
-    (λ t. rw t (ap (λ (l : List Outcome). outcome.Refused TooLong ∷ l) (sha512-verdicts ss h)))
+    (λ t. rw t (ap (λ (l : List Outcome). (Ok tt) ∷ l) (sha512-verdicts ss (sha512.absorbed h s))))
+    (λ t. rw t (ap (λ (l : List Outcome). Err TooLong ∷ l) (sha512-verdicts ss h)))
 
 pub sha512-feeds : (ss : List (List ℕ))
     → FeedsAgree sha512_calls fips180.sha512 sha512.started sha512.feeds sha512.finished ss
@@ -150,7 +150,7 @@ refused_left (n ∷ ns) t e =
     rw x (refused_left ns t e)
 
 refused-finish : (t : Transformation) → (held t).accepted ≡ false
-    → finished t ≡ record { outcome = outcome.Refused OutOfSequence; key = replicate 32 0 }
+    → finished t ≡ record { outcome = Err OutOfSequence; key = replicate 32 0 }
 unfolding kdf.finish kdf.is_open
 refused-finish t e = rw e
 

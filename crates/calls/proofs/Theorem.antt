@@ -8,6 +8,7 @@
 --   agrees_in_c                       the theorem, for every T, file and list of calls
 -- Not here: hashes, the key transformation, inner streams (States).
 -- Assumes nothing.
+use Rattle.std.specs.Prelude.{Err}
 use mathlib.Core.Path.{◌≡◌, refl, sym, ap, ◌∙◌}
 use mathlib.Core.Logic.{◌≢◌}
 use mathlib.Core.List.{List, [], ◌∷◌}
@@ -15,7 +16,6 @@ use Prim.Native.Nat.{ℕ, ◌≤◌}
 use native.Mathlib.Omega.{arith}
 use lib.ListN.{length, get_or, replicate}
 use Rattle.refusals.specs.declared.Refusal.{Refusal}
-use Rattle.refusals.specs.declared.Written.TheVariants as written
 use Rattle.opening.specs.declared.Keys.{Keys}
 use Rattle.opening.specs.declared.Phase.{Phase}
 use Rattle.opening.specs.declared.Phase.TheVariants.{Open, Closed, Ended}
@@ -138,7 +138,7 @@ module _ (t f : List ℕ) where
         (agrees t f).whole_is k p e n ∙ run.whole_gives (phase_ended m) n (rw (← handed_are) l)
         ∙ ap opened (sym handed_are)
 
-    refusals : Each (λ (a : Answer). (r : Refusal) → a.written ≡ written.Refused r → Closing r
+    refusals : Each (λ (a : Answer). (r : Refusal) → a.written ≡ Err r → Closing r
         → (n : ℕ) → opened_in t f n ≡ refused r) (step_calls t f rooms)
     refusals =
         rw answers_are

@@ -6,16 +6,14 @@
 --   AdvancesAgree       a list of `kdbx4_aes_kdf_advance` behind `kdbx4_aes_kdf_start`, and the finish
 --   StretchesAgree      a list of `kdbx4_inner_stream_apply` behind `kdbx4_inner_stream_start`
 -- Each call gets the bytes that the one before it left; refused calls are in the lists. An answer is a call's number
--- and count (refusals, Numbers: of_written, count_of) and the bytes that it puts over the front of what is lent. The first
+-- and count (refusals, Numbers: number_of, count_of) and the bytes that it puts over the front of what is lent. The first
 -- byte of an opening's is its mark: 1 of an open one, 2 of an ended, 3 of a closed (states, OpenerState).
 -- Not here: one call (Calls; exports).
 -- Assumes nothing.
-use Rattle.std.specs.Prelude.{◌≡◌, ◌≢◌, cond, List, [], ◌∷◌, ℕ, ◌+◌, ◌-◌, ◌≤◌, ◌<◌, min, leb, length, get_or, take, replicate, Ok}
+use Rattle.std.specs.Prelude.{◌≡◌, ◌≢◌, cond, List, [], ◌∷◌, ℕ, ◌+◌, ◌-◌, ◌≤◌, ◌<◌, min, leb, length, get_or, take, replicate, Ok, Err}
 use Rattle.refusals.specs.declared.Refusal.{Refusal}
 use Rattle.refusals.specs.declared.Refusal.TheVariants.{TooLong, OutOfSequence}
-use Rattle.refusals.specs.declared.Outcome.{Outcome}
-use Rattle.refusals.specs.declared.Outcome.TheVariants as outcome
-use Rattle.refusals.specs.declared.Written.TheVariants.{Refused}
+use Rattle.refusals.specs.Numbers.{Outcome}
 use Rattle.refusals.specs.Limits.{message_limit, rounds_limit}
 use Rattle.fips180.specs.Fips180.{Sha2, hash}
 use Rattle.fips180.specs.Feeds.{accepted}
@@ -43,7 +41,7 @@ use Rattle.calls.specs.Calls.{Progress, progress_of, aes_kdf_calls, opener_calls
 
 -- 19, and no byte
 abbrev pub out_of_sequence : Answer
-out_of_sequence = record { written = Refused OutOfSequence; bytes = [] }
+out_of_sequence = record { written = Err OutOfSequence; bytes = [] }
 
 -- the bytes that `kdbx4_start` leaves, of T and a file
 abbrev pub start_bytes : List ℕ → List ℕ → List ℕ
@@ -68,7 +66,7 @@ mark_left t f rooms = get_or (bytes_left t f rooms) 0 0
 pub data CallsFinished (t f rooms : List ℕ) : Type 0 where
   by_closing : mark_left t f rooms ≡ 2 → CallsFinished t f rooms
   by_refusal : mark_left t f rooms ≡ 3 → (r : Refusal) → Closing r
-      → Some (λ (a : Answer). a.written ≡ Refused r) (step_calls t f rooms)
+      → Some (λ (a : Answer). a.written ≡ Err r) (step_calls t f rooms)
       → ((n : ℕ) → opened_in t f n ≡ refused r)
       → CallsFinished t f rooms
 
@@ -88,7 +86,7 @@ pub record CallsAgree (t f : List ℕ) (k : Keys) (p : ℕ) (rooms : List ℕ) :
   pub whole_gives : mark_left t f rooms ≡ 2 → (n : ℕ) → length (handed_to_c t f rooms) ≤ n
       → opened_in t f n ≡ opened (handed_to_c t f rooms)
   -- .. a refusal that closed the opening is that of `kdbx4_open`, whatever is lent to it
-  pub refusals : Each (λ (a : Answer). (r : Refusal) → a.written ≡ Refused r → Closing r
+  pub refusals : Each (λ (a : Answer). (r : Refusal) → a.written ≡ Err r → Closing r
       → (n : ℕ) → opened_in t f n ≡ refused r) (step_calls t f rooms)
   -- .. as many calls with room as the file has bytes take the closing block or end in such a refusal
   pub ends : length f ≤ with_room (step_calls t f rooms) → CallsFinished t f rooms
@@ -117,8 +115,8 @@ pub record AgreesInC (t f : List ℕ) : Type 0 where
 unfoldable pub verdicts : ℕ → ℕ → List (List ℕ) → List Outcome
 verdicts limit n [] = []
 verdicts limit n (s ∷ ss) =
-    cond (leb (n + length s) limit) (outcome.Accepted ∷ verdicts limit (n + length s) ss)
-    (outcome.Refused TooLong ∷ verdicts limit n ss)
+    cond (leb (n + length s) limit) ((Ok tt) ∷ verdicts limit (n + length s) ss)
+    (Err TooLong ∷ verdicts limit n ss)
 
 -- feeds from a hash's first state on: m is the kind of call, p the algorithm, `feeds` and `finished` are the struct's
 pub record FeedsAgree {S : Type 0} (m : LentCalls S (List ℕ) Outcome) (p : Sha2) (started : S)
@@ -147,15 +145,15 @@ pub record AdvancesAgree (c s : List ℕ) (r : ℕ) (ns : List ℕ) : Type 0 whe
   pub progress_is : r ≤ rounds_limit → call_answers aes_kdf_calls (kdf_start c s r) ns ≡ progress c s r 0 ns
   pub key_at_end : r ≤ rounds_limit → done_by r ns 0 ≡ r
       → aes_kdf.finished (aes_kdf_bytes.unpacked (kdf_bytes c s r ns))
-      ≡ record { outcome = outcome.Accepted; key = transformed_key c s r }
+      ≡ record { outcome = Ok tt; key = transformed_key c s r }
   pub key_too_early : r ≤ rounds_limit → (done_by r ns 0 ≡ r → ⊥)
       → aes_kdf.finished (aes_kdf_bytes.unpacked (kdf_bytes c s r ns))
-      ≡ record { outcome = outcome.Refused OutOfSequence; key = replicate 32 0 }
+      ≡ record { outcome = Err OutOfSequence; key = replicate 32 0 }
   -- rounds over the limit: no call changes a byte, and 19 in the place of T
   pub never_advanced : rounds_limit < r → kdf_bytes c s r ns ≡ kdf_start c s r
   pub key_never : rounds_limit < r
       → aes_kdf.finished (aes_kdf_bytes.unpacked (kdf_bytes c s r ns))
-      ≡ record { outcome = outcome.Refused OutOfSequence; key = replicate 32 0 }
+      ≡ record { outcome = Err OutOfSequence; key = replicate 32 0 }
 
 -- of an algorithm and an inner key
 abbrev pub stream_start : ℕ → List ℕ → List ℕ
@@ -178,14 +176,14 @@ pub record StretchesAgree (algorithm : ℕ) (key : List ℕ) (xs : List Stretch)
       ≡ stream_bytes.packed (stretches.after (stream.started algorithm key).next xs)
   -- an accepted start: what the calls hand over is what the operation gives over the bytes taken, joined, at position
   -- 0, and the bytes left are those of the state behind them
-  pub accepted_bytes : (stream.started algorithm key).outcome ≡ outcome.Accepted → (room : ℕ)
+  pub accepted_bytes : (stream.started algorithm key).outcome ≡ (Ok tt) → (room : ℕ)
       → length (stream_taken algorithm key xs) ≤ room
       → bytes_of (stream_calls algorithm key xs) ≡ inner.applied_bytes algorithm key 0 (stream_taken algorithm key xs) room
-  pub accepted_left : (stream.started algorithm key).outcome ≡ outcome.Accepted
+  pub accepted_left : (stream.started algorithm key).outcome ≡ Ok tt
       → stream_left algorithm key xs
       ≡ stream_bytes.packed (stream.stream_at algorithm key (length (stream_taken algorithm key xs)))
   -- a refused start: every call is 19, hands over no byte and leaves the state's bytes
-  pub refused_answers : (r : Refusal) → (stream.started algorithm key).outcome ≡ outcome.Refused r
+  pub refused_answers : (r : Refusal) → (stream.started algorithm key).outcome ≡ Err r
       → stream_calls algorithm key xs ≡ replicate (length xs) out_of_sequence
-  pub refused_left : (r : Refusal) → (stream.started algorithm key).outcome ≡ outcome.Refused r
+  pub refused_left : (r : Refusal) → (stream.started algorithm key).outcome ≡ Err r
       → stream_left algorithm key xs ≡ stream_start algorithm key

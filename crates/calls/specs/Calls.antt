@@ -11,12 +11,10 @@
 -- The contracts of `kdbx4_step`, `kdbx4_inner_stream_apply`, the feeds and `kdbx4_aes_kdf_advance` (crate exports) cite
 -- the same definitions; proofs, Contracts, has that a call of each kind is the contract's.
 -- Assumes nothing.
-use Rattle.std.specs.Prelude.{cond, List, ◌++◌, ℕ, eqb}
-use Rattle.refusals.specs.declared.Outcome.{Outcome}
-use Rattle.refusals.specs.declared.Outcome.TheVariants.{Accepted, Refused}
-use Rattle.refusals.specs.declared.Written.{Written}
-use Rattle.refusals.specs.declared.Written.TheVariants as written
-use Rattle.refusals.specs.Numbers.{of_written}
+use Rattle.std.specs.Prelude.{cond, List, ◌++◌, ℕ, eqb, Ok, Err}
+use Rattle.refusals.specs.Numbers.{Outcome}
+use Rattle.refusals.specs.Numbers.{Written}
+use Rattle.refusals.specs.Numbers.{number_of}
 use Rattle.sha256.specs.declared.Sha256.{Sha256}
 use Rattle.sha256.specs.declared.Fed.{Fed as Fed256}
 use Rattle.sha256.specs.State as sha256
@@ -41,8 +39,8 @@ use Rattle.calls.specs.Lists.{LentCalls}
 
 -- the result where the operation accepts, and the bytes that the array had where it refuses
 abbrev pub result_or : Outcome → List ℕ → List ℕ → List ℕ
-result_or Accepted result had = result
-result_or (Refused r) result had = had
+result_or (Ok tt) result had = result
+result_or (Err r) result had = had
 
 -- the bytes of the state after a feed
 abbrev pub sha256_fed : Fed256 → List ℕ → List ℕ
@@ -60,7 +58,7 @@ abbrev pub kept_or : ℕ → List ℕ → List ℕ → List ℕ
 kept_or number next had = cond (eqb number 17) had (cond (eqb number 19) had next)
 
 abbrev pub state_or : Reply Opener → List ℕ → List ℕ
-state_or q had = kept_or (of_written q.answer.written) (opener_bytes.packed q.next) had
+state_or q had = kept_or (number_of q.answer.written) (opener_bytes.packed q.next) had
 
 -- a stretch of the inner stream that the bytes stand for, with so many bytes lent
 abbrev pub streamed : List ℕ → List ℕ → ℕ → Applied
@@ -71,8 +69,8 @@ streamed_bytes bytes s room = inner_stream.handed (stream_bytes.unpacked bytes) 
 
 -- a refused stretch leaves the state as it was: its very bytes
 abbrev pub kept_unless : Written → List ℕ → List ℕ → List ℕ
-kept_unless (written.Wrote n) next had = next
-kept_unless (written.Refused r) next had = had
+kept_unless (Ok n) next had = next
+kept_unless (Err r) next had = had
 
 abbrev pub stream_or : Applied → List ℕ → List ℕ
 stream_or a had = kept_unless a.written (stream_bytes.packed a.next) had
@@ -125,7 +123,7 @@ opener_calls file =
       next = λ o n. (step_of file o n).next;
       packed = opener_bytes.packed;
       unpacked = opener_bytes.unpacked;
-      kept = λ a. kept_or (of_written a.written);
+      kept = λ a. kept_or (number_of a.written);
     }
 
 -- stretches

@@ -9,10 +9,9 @@
 -- One stretch straight from the inner key, `kdbx4_inner_stream`, keeps no state: its contract cites the definitions of
 -- crate inner_stream, and so the theorems there hold of it.
 -- Assumes nothing.
-use Rattle.std.specs.Prelude.{◌≡◌, List, ◌∷◌, ◌++◌, ℕ, ◌+◌, ◌≤◌, length, take, drop}
+use Rattle.std.specs.Prelude.{◌≡◌, List, ◌∷◌, ◌++◌, ℕ, ◌+◌, ◌≤◌, length, take, drop, Ok}
 use Rattle.words.specs.Endian.{Bytes}
 use Rattle.words.specs.Sums.{total}
-use Rattle.refusals.specs.declared.Written.TheVariants.{Wrote}
 use Rattle.slices.specs.Over.{over}
 use Rattle.opening.specs.Runs.{Answer}
 use Rattle.states.specs.AesKdfState as aes_kdf_bytes
@@ -50,7 +49,7 @@ out_from b s out = over (stretched b s (length out)).bytes out
 -- of lent bytes b: what the bytes s give, covered from the same b, with room for it
 pub record StreamReturned (b s out : List ℕ) : Type 0 where
   pub accepted : (room : ℕ) → length s ≤ room
-      → (stretched b (stretched b s (length out)).bytes room).written ≡ Wrote (length s)
+      → (stretched b (stretched b s (length out)).bytes room).written ≡ Ok (length s)
   pub bytes : (room : ℕ) → length s ≤ room → (stretched b (stretched b s (length out)).bytes room).bytes ≡ s
   pub lent : (back : List ℕ) → length s ≤ length back
       → out_from b (take (length s) (out_from b s out)) back ≡ over s back
@@ -59,9 +58,9 @@ pub record StreamReturned (b s out : List ℕ) : Type 0 where
 
 -- .. the bytes s ++ t; s, and t from the bytes left by it, each with room for it, or t behind s in the same output
 pub record StreamCutInTwo (b s t out : List ℕ) : Type 0 where
-  pub first : (room : ℕ) → length s ≤ room → (stretched b s room).written ≡ Wrote (length s)
+  pub first : (room : ℕ) → length s ≤ room → (stretched b s room).written ≡ Ok (length s)
   pub second : (m n : ℕ) → length s ≤ m → length t ≤ n
-      → (stretched (state_behind b s m) t n).written ≡ Wrote (length t)
+      → (stretched (state_behind b s m) t n).written ≡ Ok (length t)
   pub bytes : (m n : ℕ) → length s ≤ m → length t ≤ n
       → (stretched b s m).bytes ++ (stretched (state_behind b s m) t n).bytes ≡ (stretched b (s ++ t) (length out)).bytes
   pub lent : take (length s) (out_from b s out)

@@ -24,7 +24,7 @@ use Rattle.dictionary.specs.Dictionary.{
 }
 
 -- the version and the last byte
-verdict_empty : verdict (0x00 ∷ 0x01 ∷ 0x00 ∷ []) ≡ (Ok tt)
+verdict_empty : verdict (0x00 ∷ 0x01 ∷ 0x00 ∷ []) ≡ Ok tt
 unfolding verdict walk walk_in entry_at
 verdict_empty = refl
 

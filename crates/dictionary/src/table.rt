@@ -25,15 +25,13 @@ fn compare_bytes(a: &[u8], b: &[u8]) -> Order
     requires { length a.now ≡ length b.now }
     ensures { result ≡ order.order (order.key_of a.now) (order.key_of b.now) }
 {
-    let mut i: usize = 0;
-    while i < a.len() {
+    for i in 0..a.len() {
         if a[i] < b[i] {
             return Order::Less;
         }
         if b[i] < a[i] {
             return Order::More;
         }
-        i += 1;
     }
     Order::Same
 }
@@ -71,6 +69,7 @@ pub(crate) fn locate(s: &[u8], base: usize, t: &[u32], n: usize, at: usize) -> S
 {
     let name = name_at(s, at);
     let mut low: usize = 0;
+    // A `while`: what is halved is a stretch of the table, not a count.
     let mut high = n;
     while low < high {
         let middle = low + (high - low) / 2;
@@ -89,12 +88,10 @@ fn insert(t: &mut [u32], n: usize, j: usize, place: u32)
     requires j_le_n { j ≤ n }
     ensures { take (n + 1) t.new ≡ order.inserted j place (take n t.old) }
 {
-    let mut i = n;
-    while j < i {
-        t[i] = t[i - 1];
-        i -= 1;
+    for i in (j..n).rev() {
+        t[i + 1] = t[i];
     }
-    t[i] = place;
+    t[j] = place;
 }
 
 // Whether the name of the item at a place behind the base is in a table of n; else it is put there.

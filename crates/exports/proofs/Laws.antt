@@ -6,6 +6,7 @@
 -- outcome-transformed, key-transformed of a run of Argon2; kept_or-wrote, kept_or_17, kept_or_19, kept_or_next of a step's
 -- state, by its number; kept_wrote, kept_refused of an inner stream's; join_is, two halves as code lays them.
 -- Assumes nothing.
+use Rattle.std.specs.Prelude.{Ok, Err}
 use mathlib.Core.Path.{◌≡◌, refl, sym, ap, ◌∙◌}
 use mathlib.Core.List.{List, ◌++◌}
 use Prim.Native.Nat.{ℕ}
@@ -14,31 +15,29 @@ use borrow.Author.Tests.{eq-eqb, ne_eqb}
 use Rattle.slices.specs.Over.{put_at}
 use Rattle.slices.proofs.Laws.Over.{over_whole}
 use Rattle.slices.proofs.Laws.Put.{laid_first, laid_more}
-use Rattle.refusals.specs.Numbers.{Said, of_refusal, of_outcome, of_written}
+use Rattle.refusals.specs.Numbers.{Said, of_refusal, number_of}
 use Rattle.refusals.specs.declared.Refusal.{Refusal}
-use Rattle.refusals.specs.declared.Outcome.{Outcome}
-use Rattle.refusals.specs.declared.Outcome.TheVariants.{Accepted, Refused}
-use Rattle.refusals.specs.declared.Written.{Written}
-use Rattle.refusals.specs.declared.Written.TheVariants as written
+use Rattle.refusals.specs.Numbers.{Outcome}
+use Rattle.refusals.specs.Numbers.{Written}
 use Rattle.argon2.specs.Rfc9106.{Inputs, tag}
 use Rattle.argon2.specs.Run.{transformed}
 use Rattle.calls.specs.Calls.{result_or, kept_or, kept_unless}
 use Rattle.exports.specs.Lent.{values_or, count_or}
 
-pub answer-accepted : {o p : Outcome} {x y : List ℕ} (had : List ℕ) → o ≡ p → x ≡ y → o ≡ Accepted
-    → record { value : 0 ≡ of_outcome p; out_after : x ≡ result_or p y had }
+pub answer-accepted : {o p : Outcome} {x y : List ℕ} (had : List ℕ) → o ≡ p → x ≡ y → o ≡ Ok tt
+    → record { value : 0 ≡ number_of p; out_after : x ≡ result_or p y had }
 answer-accepted had e f a = rw (sym e ∙ a) (record { value = refl; out_after = f })
 
-pub answer-refused : {o p : Outcome} {had : List ℕ} {n : ℕ} {r : Refusal} (y : List ℕ) → o ≡ p → n ≡ of_outcome o → o ≡ Refused r
-    → record { value : n ≡ of_outcome p; out_after : had ≡ result_or p y had }
-answer-refused y e f a = record { value = f ∙ ap of_outcome e; out_after = rw (sym e ∙ a) }
+pub answer-refused : {o p : Outcome} {had : List ℕ} {n : ℕ} {r : Refusal} (y : List ℕ) → o ≡ p → n ≡ number_of o → o ≡ Err r
+    → record { value : n ≡ number_of p; out_after : had ≡ result_or p y had }
+answer-refused y e f a = record { value = f ∙ ap number_of e; out_after = rw (sym e ∙ a) }
 
-pub answer-wrote : {w v : Written} {n : ℕ} (had : ℕ) → w ≡ v → w ≡ written.Wrote n
-    → record { value : 0 ≡ of_written v; count_after : n ≡ count_or v had }
+pub answer-wrote : {w v : Written} {n : ℕ} (had : ℕ) → w ≡ v → w ≡ Ok n
+    → record { value : 0 ≡ number_of v; count_after : n ≡ count_or v had }
 answer-wrote had e a = rw (sym e ∙ a) (record { value = refl; count_after = refl })
 
 pub answer_not_written : {w v : Written} {m : ℕ} {r : Refusal} (had : ℕ) → w ≡ v → m ≡ of_refusal r
-    → w ≡ written.Refused r → record { value : m ≡ of_written v; count_after : had ≡ count_or v had }
+    → w ≡ Err r → record { value : m ≡ number_of v; count_after : had ≡ count_or v had }
 answer_not_written had e f a = rw (sym e ∙ a) (record { value = f; count_after = refl })
 
 -- what a reader's answer says, s, is what the definition's says, q
@@ -59,10 +58,10 @@ answer_no_values {s} had e f g d =
 
 pub outcome-transformed : (o : Outcome) (i : Inputs) → (transformed o i).outcome ≡ o
 unfolding transformed
-outcome-transformed Accepted i = refl
-outcome-transformed (Refused r) i = refl
+outcome-transformed (Ok tt) i = refl
+outcome-transformed (Err r) i = refl
 
-pub key-transformed : (o : Outcome) (i : Inputs) → o ≡ Accepted → (transformed o i).key ≡ tag i
+pub key-transformed : (o : Outcome) (i : Inputs) → o ≡ (Ok tt) → (transformed o i).key ≡ tag i
 unfolding transformed
 key-transformed o i e = rw e
 
@@ -79,11 +78,11 @@ pub kept_or_next : {n k : ℕ} {x y : List ℕ} (had : List ℕ) → n ≡ k →
     → x ≡ kept_or k y had
 kept_or_next {n} had e a b f = rw (sym e, ne_eqb n 17 a, ne_eqb n 19 b) f
 
-pub kept_wrote : {w v : Written} {n : ℕ} {x y : List ℕ} (had : List ℕ) → w ≡ v → w ≡ written.Wrote n → x ≡ y
+pub kept_wrote : {w v : Written} {n : ℕ} {x y : List ℕ} (had : List ℕ) → w ≡ v → w ≡ Ok n → x ≡ y
     → x ≡ kept_unless v y had
 kept_wrote had e a f = rw (sym e ∙ a) f
 
-pub kept_refused : {w v : Written} {r : Refusal} {had : List ℕ} (y : List ℕ) → w ≡ v → w ≡ written.Refused r
+pub kept_refused : {w v : Written} {r : Refusal} {had : List ℕ} (y : List ℕ) → w ≡ v → w ≡ Err r
     → had ≡ kept_unless v y had
 kept_refused y e a = rw (sym e ∙ a)
 

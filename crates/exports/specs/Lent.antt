@@ -8,13 +8,11 @@
 --   credential    the credential that a slice and a flag of C stand for
 -- Not here: what the calls on a lent state leave, and result_or (crate calls, Calls).
 -- Assumes nothing.
-use Rattle.std.specs.Prelude.{cond, not, ◌||◌, List, [], ℕ, eqb, leb}
+use Rattle.std.specs.Prelude.{cond, not, ◌||◌, List, [], ℕ, eqb, leb, Ok, Err}
 use Rattle.refusals.specs.declared.Refusal.{Refusal}
 use Rattle.refusals.specs.declared.Refusal.TheVariants.{WrongVersion, Unlisted}
-use Rattle.refusals.specs.declared.Outcome.{Outcome}
-use Rattle.refusals.specs.declared.Outcome.TheVariants.{Refused}
-use Rattle.refusals.specs.declared.Written.{Written}
-use Rattle.refusals.specs.declared.Written.TheVariants as written
+use Rattle.refusals.specs.Numbers.{Outcome}
+use Rattle.refusals.specs.Numbers.{Written}
 use Rattle.refusals.specs.Numbers.{Said}
 use Rattle.sha256.specs.State as sha256_states
 use Rattle.sha512.specs.State as sha512_states
@@ -42,7 +40,8 @@ abbrev pub hmac_sha256 : List ℕ → List ℕ → List ℕ → List ℕ
 hmac_sha256 k m had = result_or (hmac_state.tagged k m).outcome (hmac_state.tagged k m).tag had
 
 abbrev pub composite_or : keys.Composed → List ℕ → List ℕ
-composite_or c had = result_or c.outcome c.key had
+composite_or (Ok key) had = key
+composite_or (Err r) had = had
 
 abbrev pub aes_kdf : List ℕ → List ℕ → ℕ → List ℕ → List ℕ
 aes_kdf composite seed rounds had =
@@ -62,7 +61,7 @@ argon2_inputs kdf composite salt passes memory lanes =
 -- 9 of another number, else the run's
 abbrev pub argon2_outcome : ℕ → Inputs → ℕ → ℕ → Outcome
 argon2_outcome kdf i memory words =
-    cond (eqb kdf 1 || eqb kdf 2) (argon2.outcome i memory words) (Refused (Unlisted 0))
+    cond (eqb kdf 1 || eqb kdf 2) (argon2.outcome i memory words) (Err (Unlisted 0))
 
 -- an answer's values where its number is 0, and the figures that stood there where it is a refusal's
 abbrev pub values_or : Said → List ℕ → List ℕ
@@ -70,8 +69,8 @@ values_or q had = cond (eqb q.number 0) q.values had
 
 -- the number of bytes written where the operation accepts, and what stood there where it refuses
 abbrev pub count_or : Written → ℕ → ℕ
-count_or (written.Wrote n) had = n
-count_or (written.Refused r) had = had
+count_or (Ok n) had = n
+count_or (Err r) had = had
 
 -- given where the flag is not 0
 abbrev pub credential : ℕ → List ℕ → keys.Credential
@@ -91,7 +90,7 @@ unlisted_kdf minor = cond (leb minor 1) (Unlisted 0) (WrongVersion 0)
 -- the answer of a writing with the KDF, and what it writes
 abbrev pub answer_by : ℕ → Chosen → (Figures → Written) → Written
 answer_by minor (chosen_as.Figures k) w = w k
-answer_by minor chosen_as.Unlisted w = written.Refused (unlisted_kdf minor)
+answer_by minor chosen_as.Unlisted w = Err (unlisted_kdf minor)
 
 abbrev pub bytes_by : Chosen → (Figures → List ℕ) → List ℕ
 bytes_by (chosen_as.Figures k) w = w k

@@ -9,13 +9,21 @@ ghost use Rattle.aes_kdf.specs.AesKdf as kdf;
 ghost use Rattle.aes_kdf.specs.State as transformation;
 ghost use Rattle.states.specs.AesKdfState as kdf_state;
 ghost use Rattle.keys.specs.Kdbx4Keys as kdbx4;
+ghost use Rattle.keys.specs.State as credentials;
 ghost use Rattle.calls.specs.Calls as calls;
 ghost use Rattle.exports.specs.Lent as lent;
 
 use aes_kdf::Transformation;
 use argon2::Kind;
-use refusals::{Outcome, Refusal};
+use refusals::Refusal;
 use states::aes_kdf_state;
+
+// A credential: given where its flag is not 0.
+fn given(s: &[u8], flag: u8) -> Option<&[u8]>
+    ensures { credentials.credential result ≡ lent.credential flag s.now }
+{
+    if flag == 0 { None } else { Some(s) }
+}
 
 // The composite key of a password, a key file or both, or a pre-hash. A credential is given where its flag is not 0.
 #[unsafe(no_mangle)]
@@ -28,24 +36,20 @@ pub extern "C" fn kdbx4_composite(
     has_pre_hash: u8,
     out: &mut [u8; 32],
 ) -> u8
-    ensures value { result ≡ numbers.of_outcome (kdbx4.composite (lent.credential has_password password.now) (lent.credential has_key_file key_file.now) (lent.credential has_pre_hash pre_hash.now)).outcome }
+    ensures value { result ≡ numbers.number_of (kdbx4.composite (lent.credential has_password password.now) (lent.credential has_key_file key_file.now) (lent.credential has_pre_hash pre_hash.now)) }
     ensures out_after { out.new ≡ lent.composite_or (kdbx4.composite (lent.credential has_password password.now) (lent.credential has_key_file key_file.now) (lent.credential has_pre_hash pre_hash.now)) out.old }
 {
-    let c = keys::composite(
-        password,
-        has_password != 0,
-        key_file,
-        has_key_file != 0,
-        pre_hash,
-        has_pre_hash != 0,
-    );
-    let outcome = c.outcome;
-    let key = c.key;
-    if let Outcome::Accepted = outcome {
-        *out = key;
-        return 0;
+    match keys::composite(
+        given(password, has_password),
+        given(key_file, has_key_file),
+        given(pre_hash, has_pre_hash),
+    ) {
+        Ok(key) => {
+            *out = key;
+            0
+        }
+        Err(r) => r.number(),
     }
-    outcome.number()
 }
 
 // AES-KDF in one call: the transformed key T of a composite key, a seed and a number of rounds.
@@ -56,7 +60,7 @@ pub extern "C" fn kdbx4_aes_kdf(
     rounds: u64,
     out: &mut [u8; 32],
 ) -> u8
-    ensures value { result ≡ numbers.of_outcome (kdf.start composite.now seed.now rounds).outcome }
+    ensures value { result ≡ numbers.number_of (kdf.start composite.now seed.now rounds).outcome }
     ensures out_after { out.new ≡ lent.aes_kdf composite.now seed.now rounds out.old }
 {
     let c = *composite;
@@ -64,12 +68,12 @@ pub extern "C" fn kdbx4_aes_kdf(
     let started = Transformation::start(c, s, rounds);
     let outcome = started.outcome;
     let next = started.next;
-    if let Outcome::Accepted = outcome {
+    if let Ok(()) = outcome {
         let key = next.advance(rounds).finish().key;
         *out = key;
         return 0;
     }
-    outcome.number()
+    refusals::number(outcome)
 }
 
 // Starts AES-KDF in parts. Rounds over the limit give a state that only 19 comes of.
@@ -80,7 +84,7 @@ pub extern "C" fn kdbx4_aes_kdf_start(
     rounds: u64,
     state: &mut [u8; 281],
 ) -> u8
-    ensures value { result ≡ numbers.of_outcome (kdf.start composite.now seed.now rounds).outcome }
+    ensures value { result ≡ numbers.number_of (kdf.start composite.now seed.now rounds).outcome }
     ensures state_after { state.new ≡ kdf_state.packed (transformation.started composite.now seed.now rounds).next }
 {
     let c = *composite;
@@ -89,7 +93,7 @@ pub extern "C" fn kdbx4_aes_kdf_start(
     let outcome = started.outcome;
     let next = started.next;
     *state = aes_kdf_state::pack(next);
-    outcome.number()
+    refusals::number(outcome)
 }
 
 // The two halves of a key, joined.
@@ -126,18 +130,18 @@ pub extern "C" fn kdbx4_aes_kdf_advance(
 // The transformed key T, once all rounds are done.
 #[unsafe(no_mangle)]
 pub extern "C" fn kdbx4_aes_kdf_finish(state: &[u8; 281], out: &mut [u8; 32]) -> u8
-    ensures value { result ≡ numbers.of_outcome (transformation.finished (kdf_state.unpacked state.now)).outcome }
+    ensures value { result ≡ numbers.number_of (transformation.finished (kdf_state.unpacked state.now)).outcome }
     ensures out_after { out.new ≡ lent.transformed_or (transformation.finished (kdf_state.unpacked state.now)) out.old }
 {
     let bytes = *state;
     let finished = aes_kdf_state::unpack(bytes).finish();
     let outcome = finished.outcome;
     let key = finished.key;
-    if let Outcome::Accepted = outcome {
+    if let Ok(()) = outcome {
         *out = key;
         return 0;
     }
-    outcome.number()
+    refusals::number(outcome)
 }
 
 // T by a kind of Argon2.
@@ -151,7 +155,7 @@ fn run_argon2(
     words: &mut [u64],
     out: &mut [u8; 32],
 ) -> u8
-    ensures value { result ≡ numbers.of_outcome (argon2.outcome (argon2.vault_inputs kind composite.now salt.now passes memory lanes) memory (length words.old)) }
+    ensures value { result ≡ numbers.number_of (argon2.outcome (argon2.vault_inputs kind composite.now salt.now passes memory lanes) memory (length words.old)) }
     ensures words_after { words.new ≡ argon2.left (argon2.outcome (argon2.vault_inputs kind composite.now salt.now passes memory lanes) memory (length words.old)) (argon2.vault_inputs kind composite.now salt.now passes memory lanes) words.old }
     ensures out_after { out.new ≡ calls.result_or (argon2.outcome (argon2.vault_inputs kind composite.now salt.now passes memory lanes) memory (length words.old)) (argon2.transformed_key kind composite.now salt.now passes memory lanes) out.old }
 {
@@ -159,11 +163,11 @@ fn run_argon2(
     let transformed = argon2::transform(kind, c, salt, passes, memory, lanes, words);
     let outcome = transformed.outcome;
     let key = transformed.key;
-    if let Outcome::Accepted = outcome {
+    if let Ok(()) = outcome {
         *out = key;
         return 0;
     }
-    outcome.number()
+    refusals::number(outcome)
 }
 
 // Argon2 in one call: the transformed key T of a composite key, a salt and its figures, in lent words. 1 is Argon2d, 2
@@ -179,7 +183,7 @@ pub extern "C" fn kdbx4_argon2(
     words: &mut [u64],
     out: &mut [u8; 32],
 ) -> u8
-    ensures value { result ≡ numbers.of_outcome (lent.argon2_outcome kdf (lent.argon2_inputs kdf composite.now salt.now passes memory lanes) memory (length words.old)) }
+    ensures value { result ≡ numbers.number_of (lent.argon2_outcome kdf (lent.argon2_inputs kdf composite.now salt.now passes memory lanes) memory (length words.old)) }
     ensures words_after { words.new ≡ argon2.left (lent.argon2_outcome kdf (lent.argon2_inputs kdf composite.now salt.now passes memory lanes) memory (length words.old)) (lent.argon2_inputs kdf composite.now salt.now passes memory lanes) words.old }
     ensures out_after { out.new ≡ calls.result_or (lent.argon2_outcome kdf (lent.argon2_inputs kdf composite.now salt.now passes memory lanes) memory (length words.old)) (argon2.transformed_key (lent.argon2_kind kdf) composite.now salt.now passes memory lanes) out.old }
 {

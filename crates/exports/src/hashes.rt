@@ -11,7 +11,6 @@ ghost use Rattle.states.specs.Sha512State as sha512_states;
 ghost use Rattle.calls.specs.Calls as calls;
 ghost use Rattle.exports.specs.Lent as lent;
 
-use refusals::Outcome;
 use sha256::Sha256;
 use sha512::Sha512;
 use states::{sha256_state, sha512_state};
@@ -19,49 +18,49 @@ use states::{sha256_state, sha512_state};
 // SHA-256 (FIPS 180-4) of `m`.
 #[unsafe(no_mangle)]
 pub extern "C" fn kdbx4_sha256(m: &[u8], out: &mut [u8; 32]) -> u8
-    ensures value { result ≡ numbers.of_outcome (sha256.hashed m.now).outcome }
+    ensures value { result ≡ numbers.number_of (sha256.hashed m.now).outcome }
     ensures out_after { out.new ≡ lent.sha256 m.now out.old }
 {
     let h = sha256::hash(m);
     let outcome = h.outcome;
     let digest = h.digest;
-    if let Outcome::Accepted = outcome {
+    if let Ok(()) = outcome {
         *out = digest;
         return 0;
     }
-    outcome.number()
+    refusals::number(outcome)
 }
 
 // SHA-512 (FIPS 180-4) of `m`.
 #[unsafe(no_mangle)]
 pub extern "C" fn kdbx4_sha512(m: &[u8], out: &mut [u8; 64]) -> u8
-    ensures value { result ≡ numbers.of_outcome (sha512.hashed m.now).outcome }
+    ensures value { result ≡ numbers.number_of (sha512.hashed m.now).outcome }
     ensures out_after { out.new ≡ lent.sha512 m.now out.old }
 {
     let h = sha512::hash(m);
     let outcome = h.outcome;
     let digest = h.digest;
-    if let Outcome::Accepted = outcome {
+    if let Ok(()) = outcome {
         *out = digest;
         return 0;
     }
-    outcome.number()
+    refusals::number(outcome)
 }
 
 // HMAC-SHA-256 (RFC 2104) of `m` under `key`.
 #[unsafe(no_mangle)]
 pub extern "C" fn kdbx4_hmac_sha256(key: &[u8], m: &[u8], out: &mut [u8; 32]) -> u8
-    ensures value { result ≡ numbers.of_outcome (hmac.tagged key.now m.now).outcome }
+    ensures value { result ≡ numbers.number_of (hmac.tagged key.now m.now).outcome }
     ensures out_after { out.new ≡ lent.hmac_sha256 key.now m.now out.old }
 {
     let t = hmac::tag(key, m);
     let outcome = t.outcome;
     let tag = t.tag;
-    if let Outcome::Accepted = outcome {
+    if let Ok(()) = outcome {
         *out = tag;
         return 0;
     }
-    outcome.number()
+    refusals::number(outcome)
 }
 
 // Starts a SHA-256 in parts.
@@ -75,18 +74,18 @@ pub extern "C" fn kdbx4_sha256_start(state: &mut [u8; 100])
 // Feeds a part to a SHA-256.
 #[unsafe(no_mangle)]
 pub extern "C" fn kdbx4_sha256_feed(state: &mut [u8; 100], part: &[u8]) -> u8
-    ensures value { result ≡ numbers.of_outcome (sha256.fed (sha256_states.unpacked state.old) part.now).outcome }
+    ensures value { result ≡ numbers.number_of (sha256.fed (sha256_states.unpacked state.old) part.now).outcome }
     ensures state_after { state.new ≡ calls.sha256_fed (sha256.fed (sha256_states.unpacked state.old) part.now) state.old }
 {
     let bytes = *state;
     let fed = sha256_state::unpack(bytes).feed(part);
     let outcome = fed.outcome;
     let next = fed.next;
-    if let Outcome::Accepted = outcome {
+    if let Ok(()) = outcome {
         *state = sha256_state::pack(next);
         return 0;
     }
-    outcome.number()
+    refusals::number(outcome)
 }
 
 // The digest of all that was fed to a SHA-256.
@@ -109,18 +108,18 @@ pub extern "C" fn kdbx4_sha512_start(state: &mut [u8; 196])
 // Feeds a part to a SHA-512.
 #[unsafe(no_mangle)]
 pub extern "C" fn kdbx4_sha512_feed(state: &mut [u8; 196], part: &[u8]) -> u8
-    ensures value { result ≡ numbers.of_outcome (sha512.fed (sha512_states.unpacked state.old) part.now).outcome }
+    ensures value { result ≡ numbers.number_of (sha512.fed (sha512_states.unpacked state.old) part.now).outcome }
     ensures state_after { state.new ≡ calls.sha512_fed (sha512.fed (sha512_states.unpacked state.old) part.now) state.old }
 {
     let bytes = *state;
     let fed = sha512_state::unpack(bytes).feed(part);
     let outcome = fed.outcome;
     let next = fed.next;
-    if let Outcome::Accepted = outcome {
+    if let Ok(()) = outcome {
         *state = sha512_state::pack(next);
         return 0;
     }
-    outcome.number()
+    refusals::number(outcome)
 }
 
 // The digest of all that was fed to a SHA-512.

@@ -8,8 +8,6 @@ ghost use Rattle.outer_header.specs.Answers as answers;
 ghost use Rattle.listing.specs.Listing as listing;
 ghost use Rattle.exports.specs.Lent as lent;
 
-use refusals::Written;
-
 // What the header of a file says; the place of a refusal in `place`.
 #[unsafe(no_mangle)]
 pub extern "C" fn kdbx4_header(file: &[u8], figures: &mut [u64; 17], place: &mut usize) -> u8
@@ -30,16 +28,16 @@ pub extern "C" fn kdbx4_header(file: &[u8], figures: &mut [u64; 17], place: &mut
 // The text of the header listing over the front of `out`, and its length in `count`.
 #[unsafe(no_mangle)]
 pub extern "C" fn kdbx4_list(file: &[u8], out: &mut [u8], count: &mut usize) -> u8
-    ensures value { result ≡ numbers.of_written (listing.answer (listing.text file.now) out.old) }
+    ensures value { result ≡ numbers.number_of (listing.answer (listing.text file.now) out.old) }
     ensures out_after { out.new ≡ listing.after (listing.text file.now) out.old }
     ensures count_after { count.new ≡ lent.count_or (listing.answer (listing.text file.now) out.old) count.old }
 {
     let answer = listing::list(file, out);
     match answer {
-        Written::Wrote(n) => {
+        Ok(n) => {
             *count = n;
             return 0;
         }
-        Written::Refused(r) => return r.number(),
+        Err(r) => return r.number(),
     }
 }

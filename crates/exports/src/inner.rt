@@ -9,8 +9,6 @@ ghost use Rattle.inner_header.specs.Answers as answers;
 ghost use Rattle.inner_header.specs.Writer as writer;
 ghost use Rattle.exports.specs.Lent as lent;
 
-use refusals::Written;
-
 // What the inner header of a payload says; the place of a refusal in `place`.
 #[unsafe(no_mangle)]
 pub extern "C" fn kdbx4_inner(payload: &[u8], figures: &mut [u64; 5], place: &mut usize) -> u8
@@ -61,16 +59,16 @@ pub extern "C" fn kdbx4_inner_write(
     out: &mut [u8],
     count: &mut usize,
 ) -> u8
-    ensures value { result ≡ numbers.of_written (writer.writing algorithm key.now run.now document.now (length out.old)) }
+    ensures value { result ≡ numbers.number_of (writer.writing algorithm key.now run.now document.now (length out.old)) }
     ensures out_after { out.new ≡ over (writer.written_bytes algorithm key.now run.now document.now (length out.old)) out.old }
     ensures count_after { count.new ≡ lent.count_or (writer.writing algorithm key.now run.now document.now (length out.old)) count.old }
 {
     let answer = inner_header::writer::write(algorithm, key, run, document, out);
     match answer {
-        Written::Wrote(n) => {
+        Ok(n) => {
             *count = n;
             return 0;
         }
-        Written::Refused(r) => return r.number(),
+        Err(r) => return r.number(),
     }
 }

@@ -11,7 +11,6 @@ ghost use Rattle.calls.specs.Calls as calls;
 ghost use Rattle.exports.specs.Lent as lent;
 
 use inner_stream::InnerStream;
-use refusals::Written;
 use states::inner_stream_state;
 
 // A stretch at a position of the inner stream, covered or uncovered over the front of `out`, and its length in `count`.
@@ -24,31 +23,31 @@ pub extern "C" fn kdbx4_inner_stream(
     out: &mut [u8],
     count: &mut usize,
 ) -> u8
-    ensures value { result ≡ numbers.of_written (inner.applying algorithm key.now position bytes.now (length out.old)) }
+    ensures value { result ≡ numbers.number_of (inner.applying algorithm key.now position bytes.now (length out.old)) }
     ensures out_after { out.new ≡ over (inner.applied_bytes algorithm key.now position bytes.now (length out.old)) out.old }
     ensures count_after { count.new ≡ lent.count_or (inner.applying algorithm key.now position bytes.now (length out.old)) count.old }
 {
     let answer = inner_stream::apply(algorithm, key, position, bytes, out);
     match answer {
-        Written::Wrote(n) => {
+        Ok(n) => {
             *count = n;
             return 0;
         }
-        Written::Refused(r) => return r.number(),
+        Err(r) => return r.number(),
     }
 }
 
 // Starts an inner stream. A refused start gives a state that only 19 comes of.
 #[unsafe(no_mangle)]
 pub extern "C" fn kdbx4_inner_stream_start(algorithm: u32, key: &[u8], state: &mut [u8; 53]) -> u8
-    ensures value { result ≡ numbers.of_outcome (stream.started algorithm key.now).outcome }
+    ensures value { result ≡ numbers.number_of (stream.started algorithm key.now).outcome }
     ensures state_after { state.new ≡ stream_bytes.packed (stream.started algorithm key.now).next }
 {
     let started = InnerStream::start(algorithm, key);
     let outcome = started.outcome;
     let next = started.next;
     *state = inner_stream_state::pack(next);
-    outcome.number()
+    refusals::number(outcome)
 }
 
 // The next stretch of an inner stream, covered or uncovered over the front of `out`, and its length in `count`.
@@ -59,7 +58,7 @@ pub extern "C" fn kdbx4_inner_stream_apply(
     out: &mut [u8],
     count: &mut usize,
 ) -> u8
-    ensures value { result ≡ numbers.of_written (calls.streamed state.old bytes.now (length out.old)).written }
+    ensures value { result ≡ numbers.number_of (calls.streamed state.old bytes.now (length out.old)).written }
     ensures state_after { state.new ≡ calls.stream_or (calls.streamed state.old bytes.now (length out.old)) state.old }
     ensures out_after { out.new ≡ over (calls.streamed_bytes state.old bytes.now (length out.old)) out.old }
     ensures count_after { count.new ≡ lent.count_or (calls.streamed state.old bytes.now (length out.old)).written count.old }
@@ -70,11 +69,11 @@ pub extern "C" fn kdbx4_inner_stream_apply(
     let written = applied.written;
     let next = applied.next;
     match written {
-        Written::Wrote(n) => {
+        Ok(n) => {
             *state = inner_stream_state::pack(next);
             *count = n;
             return 0;
         }
-        Written::Refused(r) => return r.number(),
+        Err(r) => return r.number(),
     }
 }

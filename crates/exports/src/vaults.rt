@@ -13,7 +13,7 @@ ghost use Rattle.calls.specs.Calls as calls;
 ghost use Rattle.exports.specs.Lent as lent;
 
 use kdf_dictionary::writer::Figures;
-use refusals::{Refusal, Written};
+use refusals::Refusal;
 use states::opener_state;
 
 // The figures of a KDF, or that its number is not listed.
@@ -33,20 +33,20 @@ pub extern "C" fn kdbx4_open(
     count: &mut usize,
     place: &mut usize,
 ) -> u8
-    ensures value { result ≡ numbers.of_written (whole.written_of (vault.opened_in t.now file.now (length out.old))) }
+    ensures value { result ≡ numbers.number_of (whole.written_of (vault.opened_in t.now file.now (length out.old))) }
     ensures out_after { out.new ≡ over (whole.shown_of (vault.opened_in t.now file.now (length out.old))) out.old }
     ensures count_after { count.new ≡ lent.count_or (whole.written_of (vault.opened_in t.now file.now (length out.old))) count.old }
-    ensures place_after { place.new ≡ numbers.place_of_written (whole.written_of (vault.opened_in t.now file.now (length out.old))) }
+    ensures place_after { place.new ≡ numbers.place_of_answer (whole.written_of (vault.opened_in t.now file.now (length out.old))) }
 {
     let key = *t;
     let answer = vault::open(file, key, out);
-    *place = answer.place();
+    *place = refusals::place(answer);
     match answer {
-        Written::Wrote(n) => {
+        Ok(n) => {
             *count = n;
             return 0;
         }
-        Written::Refused(r) => return r.number(),
+        Err(r) => return r.number(),
     }
 }
 
@@ -59,8 +59,8 @@ pub extern "C" fn kdbx4_start(
     state: &mut [u8; 410],
     place: &mut usize,
 ) -> u8
-    ensures value { result ≡ numbers.of_outcome (vault.outcome_of (vault.start t.now file.now)) }
-    ensures place_after { place.new ≡ numbers.place_of_outcome (vault.outcome_of (vault.start t.now file.now)) }
+    ensures value { result ≡ numbers.number_of (vault.outcome_of (vault.start t.now file.now)) }
+    ensures place_after { place.new ≡ numbers.place_of_answer (vault.outcome_of (vault.start t.now file.now)) }
     ensures state_after { state.new ≡ opener_states.packed (vault.state_of (vault.start t.now file.now)) }
 {
     let key = *t;
@@ -68,8 +68,8 @@ pub extern "C" fn kdbx4_start(
     let outcome = s.outcome;
     let next = s.next;
     *state = opener_state::pack(next);
-    *place = outcome.place();
-    outcome.number()
+    *place = refusals::place(outcome);
+    refusals::number(outcome)
 }
 
 // Takes the next block: what it makes due over the front of `out`, and its length in `count`. 17 and 19 leave the
@@ -81,7 +81,7 @@ pub extern "C" fn kdbx4_step(
     out: &mut [u8],
     count: &mut usize,
 ) -> u8
-    ensures value { result ≡ numbers.of_written (calls.stepped state.old file.now (length out.old)).answer.written }
+    ensures value { result ≡ numbers.number_of (calls.stepped state.old file.now (length out.old)).answer.written }
     ensures state_after { state.new ≡ calls.state_or (calls.stepped state.old file.now (length out.old)) state.old }
     ensures out_after { out.new ≡ over (calls.stepped state.old file.now (length out.old)).answer.bytes out.old }
     ensures count_after { count.new ≡ lent.count_or (calls.stepped state.old file.now (length out.old)).answer.written count.old }
@@ -92,12 +92,12 @@ pub extern "C" fn kdbx4_step(
     let answer = s.answer;
     let next = s.next;
     match answer {
-        Written::Wrote(n) => {
+        Ok(n) => {
             *state = opener_state::pack(next);
             *count = n;
             return 0;
         }
-        Written::Refused(r) => {
+        Err(r) => {
             let number = r.number();
             if number == 17 {
                 return number;
@@ -159,7 +159,7 @@ fn write_with(
     out: &mut [u8],
     count: &mut usize,
 ) -> u8
-    ensures value { result ≡ numbers.of_written (kdbx4.writing (kdbx4.figures minor cipher.now seed.now nonce.now figures salt.now custom.now) t.now payload.now (length out.old)) }
+    ensures value { result ≡ numbers.number_of (kdbx4.writing (kdbx4.figures minor cipher.now seed.now nonce.now figures salt.now custom.now) t.now payload.now (length out.old)) }
     ensures out_after { out.new ≡ over (kdbx4.shown (kdbx4.figures minor cipher.now seed.now nonce.now figures salt.now custom.now) t.now payload.now (length out.old)) out.old }
     ensures count_after { count.new ≡ lent.count_or (kdbx4.writing (kdbx4.figures minor cipher.now seed.now nonce.now figures salt.now custom.now) t.now payload.now (length out.old)) count.old }
 {
@@ -168,11 +168,11 @@ fn write_with(
         minor, cipher, seed, nonce, figures, salt, custom, key, payload, out,
     );
     match answer {
-        Written::Wrote(length) => {
+        Ok(length) => {
             *count = length;
             return 0;
         }
-        Written::Refused(r) => return r.number(),
+        Err(r) => return r.number(),
     }
 }
 
@@ -195,7 +195,7 @@ pub extern "C" fn kdbx4_write(
     out: &mut [u8],
     count: &mut usize,
 ) -> u8
-    ensures value { result ≡ numbers.of_written (lent.answer_by minor (lent.chosen kdf rounds memory lanes) (λ k. kdbx4.writing (kdbx4.figures minor cipher.now seed.now nonce.now k salt.now custom.now) t.now payload.now (length out.old))) }
+    ensures value { result ≡ numbers.number_of (lent.answer_by minor (lent.chosen kdf rounds memory lanes) (λ k. kdbx4.writing (kdbx4.figures minor cipher.now seed.now nonce.now k salt.now custom.now) t.now payload.now (length out.old))) }
     ensures out_after { out.new ≡ over (lent.bytes_by (lent.chosen kdf rounds memory lanes) (λ k. kdbx4.shown (kdbx4.figures minor cipher.now seed.now nonce.now k salt.now custom.now) t.now payload.now (length out.old))) out.old }
     ensures count_after { count.new ≡ lent.count_or (lent.answer_by minor (lent.chosen kdf rounds memory lanes) (λ k. kdbx4.writing (kdbx4.figures minor cipher.now seed.now nonce.now k salt.now custom.now) t.now payload.now (length out.old))) count.old }
 {

@@ -5,11 +5,10 @@
 -- Not here: the standard (Fips180); that a state so fed gives the standard's hash (proofs, Laws.Feeding and
 -- Laws.Feeds).
 -- Assumes nothing.
-use Rattle.std.specs.Prelude.{cond, List, ◌++◌, ℕ, ◌+◌, ◌*◌, ◌/◌, ◌%◌, ltb, leb, length, take, drop, replicate}
+use Rattle.std.specs.Prelude.{cond, List, ◌++◌, ℕ, ◌+◌, ◌*◌, ◌/◌, ◌%◌, ltb, leb, length, take, drop, replicate, Ok, Err}
 use Rattle.slices.specs.Over.{over}
 use Rattle.refusals.specs.declared.Refusal.TheVariants.{TooLong}
-use Rattle.refusals.specs.declared.Outcome.{Outcome}
-use Rattle.refusals.specs.declared.Outcome.TheVariants.{Accepted, Refused}
+use Rattle.refusals.specs.Numbers.{Outcome}
 use Rattle.refusals.specs.Limits.{message_limit}
 use Rattle.fips180.specs.Fips180.{Sha2, block_bytes, padding, parse, hash_blocks, digest, hash}
 
@@ -55,8 +54,8 @@ absorbed p h s =
 unfoldable pub feed_to : Sha2 → ℕ → Hashing → List ℕ → Fed
 feed_to p limit h s =
     cond (leb (h.total + length s) limit)
-    (record { outcome = Accepted; next = absorbed p h s })
-    (record { outcome = Refused TooLong; next = h })
+    (record { outcome = Ok tt; next = absorbed p h s })
+    (record { outcome = Err TooLong; next = h })
 
 abbrev pub feed : Sha2 → Hashing → List ℕ → Fed
 feed p = feed_to p message_limit
@@ -68,5 +67,5 @@ finish p h = digest p (hash_blocks p h.chain (parse p (pending p h ++ padding p 
 unfoldable pub hashed : Sha2 → List ℕ → Hashed
 hashed p m =
     cond (leb (length m) message_limit)
-    (record { outcome = Accepted; digest = hash p m })
-    (record { outcome = Refused TooLong; digest = replicate (8 * p.bytes) 0 })
+    (record { outcome = Ok tt; digest = hash p m })
+    (record { outcome = Err TooLong; digest = replicate (8 * p.bytes) 0 })

@@ -10,7 +10,7 @@ ghost use Rattle.fips180.specs.State.{held, held_fed};
 use crate::block::blocks;
 use crate::rounds::Working;
 use crate::word::Word;
-use refusals::{Outcome, Refusal};
+use refusals::Refusal;
 
 // The hash value, the bytes that are no whole block yet, and how many bytes came in all.
 #[derive(Clone, Copy)]
@@ -23,7 +23,7 @@ pub struct State<W, const B: usize> {
 // A feed's answer, and the next state.
 #[derive(Clone, Copy)]
 pub struct Fed<W, const B: usize> {
-    pub outcome: Outcome,
+    pub outcome: Result<(), Refusal>,
     pub next: State<W, B>,
 }
 
@@ -75,19 +75,19 @@ impl<W: Word, const B: usize> State<W, B> {
         let most = limit as usize;
         if most < total {
             return Fed {
-                outcome: Outcome::Refused(Refusal::TooLong),
+                outcome: Err(Refusal::TooLong),
                 next: self,
             };
         }
         if most - total < s.len() {
             return Fed {
-                outcome: Outcome::Refused(Refusal::TooLong),
+                outcome: Err(Refusal::TooLong),
                 next: self,
             };
         }
         let next = self.absorb(s, k);
         Fed {
-            outcome: Outcome::Accepted,
+            outcome: Ok(()),
             next,
         }
     }

@@ -23,7 +23,6 @@ use Rattle.words.proofs.Laws.Cases.{by_bool}
 use Rattle.slices.proofs.Laws.Parts.{part_front}
 use Rattle.refusals.specs.declared.Refusal.{Refusal}
 use Rattle.refusals.specs.declared.Refusal.TheVariants.{TooFewRounds}
-use Rattle.refusals.specs.declared.Outcome.TheVariants as outcome
 use Rattle.refusals.specs.Limits.{file_limit, rounds_least}
 use Rattle.refusals.proofs.Laws.Limits.{argon2_fits_bounds}
 use Rattle.fields.specs.Fields.{bytes_at, fits, field_bytes, nowhere}
@@ -189,14 +188,14 @@ module _ (minor : ℕ) (c : Cipher) (seed nonce : List ℕ) (fig : Figures) (sal
       (λ t. rw t (no_bytes custom (eqb-true (length custom) 0 t)))
       (λ t. rw t (bytes_at_lies s (89 + nonce_length c + kl) 12 custom _ (w.custom_lies t)))
 
-  custom_sound : (v : Result Unit Fault) → custom_in v ≡ outcome.Accepted → v ≡ (Ok tt)
+  custom_sound : (v : Result Unit Fault) → custom_in v ≡ (Ok tt) → v ≡ Ok tt
   unfolding custom_in
   custom_sound (Ok tt) e = refl
   custom_sound (Err (fault.Broken at)) e = let z : ◌≡◌ {A = ℕ} 0 1 = cc in absurd (omega arith)
   custom_sound (Err (fault.Repeated at)) e = let z : ◌≡◌ {A = ℕ} 0 1 = cc in absurd (omega arith)
 
-  custom_judged : custom_verdict custom ≡ outcome.Accepted
-      → custom_of s (custom_place c fig (length salt) (length custom)) ≡ outcome.Accepted
+  custom_judged : custom_verdict custom ≡ Ok tt
+      → custom_of s (custom_place c fig (length salt) (length custom)) ≡ Ok tt
   unfolding custom_verdict custom_of header.custom_in
   custom_judged =
       by_bool (eqb (length custom) 0)
@@ -236,7 +235,7 @@ module _ (minor : ℕ) (c : Cipher) (seed nonce : List ℕ) (fig : Figures) (sal
       ∙ refuses_judged s (fields_with c kl p) minor _ c r (complete_fields c kl p) cipher_known no_compression_lem refl x
 
   module _ (writable : IsWritable fig (length salt))
-      (sound : custom_verdict custom ≡ outcome.Accepted) where
+      (sound : custom_verdict custom ≡ Ok tt) where
     kdf_asks : kdf_of s (kdf_place c fig (length salt))
         ≡ Ok (written_kdf fig (kdf_place c fig (length salt)) (length salt))
     kdf_asks = kdf_of-kdf_bytes fig salt s (kdf_place c fig (length salt)) writable kdf_bytes_lem

@@ -13,8 +13,7 @@
 use Rattle.std.specs.Prelude.{Bool, true, cond, List, [], ◌∷◌, ◌++◌, ℕ, ◌+◌, eqb, leb, length, Option, Some, None, Result, Ok, Err}
 use Rattle.words.specs.Endian.{le_bytes}
 use Rattle.refusals.specs.declared.Refusal.TheVariants.{WrongVersion, WrongSize, Repeated, Unlisted, BrokenDictionary, TooManyRounds, TooFewRounds, FigureOutside}
-use Rattle.refusals.specs.declared.Outcome.{Outcome}
-use Rattle.refusals.specs.declared.Outcome.TheVariants as outcome
+use Rattle.refusals.specs.Numbers.{Outcome}
 use Rattle.refusals.specs.Limits.{rounds_limit, rounds_least, argon2_fits}
 use Rattle.fields.specs.Fields.{field_bytes}
 use Rattle.ciphers.specs.Ciphers.{identifier, cipher_of, nonce_length}
@@ -62,16 +61,16 @@ header_length c fig m n = 98 + nonce_length c + kdf_length fig m + cond (eqb n 0
 
 -- 10 or 6, where there is a custom dictionary
 unfoldable pub custom_in : Result Unit Fault → Outcome
-custom_in (Ok tt) = outcome.Accepted
-custom_in (Err (fault.Broken at)) = outcome.Refused (BrokenDictionary 0)
-custom_in (Err (fault.Repeated at)) = outcome.Refused (Repeated 0)
+custom_in (Ok tt) = Ok tt
+custom_in (Err (fault.Broken at)) = Err (BrokenDictionary 0)
+custom_in (Err (fault.Repeated at)) = Err (Repeated 0)
 
 unfoldable pub custom_verdict : List ℕ → Outcome
-custom_verdict custom = cond (eqb (length custom) 0) outcome.Accepted (custom_in (verdict custom))
+custom_verdict custom = cond (eqb (length custom) 0) (Ok tt) (custom_in (verdict custom))
 
 unfoldable pub checked_custom : Cipher → Outcome → Result Cipher Refusal
-checked_custom c outcome.Accepted = Ok c
-checked_custom c (outcome.Refused r) = Err r
+checked_custom c (Ok tt) = Ok c
+checked_custom c (Err r) = Err r
 
 -- the size of AES-KDF's seed; Argon2's salt is one of its figures
 unfoldable pub salt_sized : Figures → ℕ → Bool

@@ -5,13 +5,13 @@
 -- the code.
 -- In order: hmac_sha256_of_parts (whichever are refused), hmac_sha256_of_joined (within the limit), hmac_sha256_of_one.
 -- Assumes nothing.
+use Rattle.std.specs.Prelude.{Ok}
 use mathlib.Core.Path.{◌≡◌, refl, ap, ◌∙◌}
 use mathlib.Core.List.{List, [], ◌∷◌, append-nil}
 use Prim.Native.Nat.{ℕ, ◌≤◌}
 use native.Mathlib.Omega.{arith}
 use lib.ListN.{length}
 use borrow.Author.Tests.{le-leb}
-use Rattle.refusals.specs.declared.Outcome.TheVariants.{Accepted}
 use Rattle.refusals.specs.Limits.{message_limit}
 use Rattle.refusals.proofs.Laws.Limits.{message_blocks}
 use Rattle.fips180.specs.Fips180.{sha256}
@@ -32,7 +32,7 @@ held-feeds (s ∷ ss) t = held-feeds ss _
 
 -- a key within the limit is accepted
 pub started-key : (k : List ℕ) → length k ≤ message_limit
-    → started k ≡ keyed_stored (record { outcome = Accepted; next = tagging.begun sha256 (key_block sha256 k) })
+    → started k ≡ keyed_stored (record { outcome = Ok tt; next = tagging.begun sha256 (key_block sha256 k) })
 unfolding tagging.start
 started-key k l = rw (le-leb _ _ l)
 

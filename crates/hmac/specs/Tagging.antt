@@ -2,10 +2,9 @@
 --
 -- Not here: that a tag so made is RFC 2104's (proofs, Laws and Parts).
 -- Assumes nothing.
-use Rattle.std.specs.Prelude.{cond, ◌&&◌, List, [], ◌∷◌, ℕ, ◌+◌, ◌*◌, leb, length, replicate}
+use Rattle.std.specs.Prelude.{cond, ◌&&◌, List, [], ◌∷◌, ℕ, ◌+◌, ◌*◌, leb, length, replicate, Ok, Err}
 use Rattle.refusals.specs.declared.Refusal.TheVariants.{TooLong}
-use Rattle.refusals.specs.declared.Outcome.{Outcome}
-use Rattle.refusals.specs.declared.Outcome.TheVariants.{Accepted, Refused}
+use Rattle.refusals.specs.Numbers.{Outcome}
 use Rattle.refusals.specs.Limits.{message_limit}
 use Rattle.fips180.specs.Fips180.{Sha2, block_bytes}
 use Rattle.fips180.specs.Hashing as hashing
@@ -41,8 +40,8 @@ closed p =
 unfoldable pub start : Sha2 → List ℕ → Keyed
 start p k =
     cond (leb (length k) message_limit)
-    (record { outcome = Accepted; next = begun p (key_block p k) })
-    (record { outcome = Refused TooLong; next = closed p })
+    (record { outcome = Ok tt; next = begun p (key_block p k) })
+    (record { outcome = Err TooLong; next = closed p })
 
 -- a feed: the limit is the message's own, without the key block
 unfoldable pub feed : Sha2 → Tagging → List ℕ → Keyed
@@ -57,8 +56,8 @@ finish p t = hashing.finish p (hashing.feed p t.outer (hashing.finish p t.inner)
 unfoldable pub tagged : Sha2 → List ℕ → List ℕ → Tagged
 tagged p k m =
     cond (leb (length k) message_limit && leb (length m) message_limit)
-    (record { outcome = Accepted; tag = hmac p k m })
-    (record { outcome = Refused TooLong; tag = replicate (8 * p.bytes) 0 })
+    (record { outcome = Ok tt; tag = hmac p k m })
+    (record { outcome = Err TooLong; tag = replicate (8 * p.bytes) 0 })
 
 -- the state after feeding each part in turn
 unfoldable pub feeds : Sha2 → Tagging → List (List ℕ) → Tagging

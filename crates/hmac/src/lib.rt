@@ -11,7 +11,7 @@ ghost use Rattle.refusals.specs.Limits.{message_limit};
 ghost use Rattle.hmac.specs.Rfc2104 as rfc2104;
 ghost use Rattle.hmac.specs.State as state;
 
-use refusals::{Outcome, Refusal};
+use refusals::Refusal;
 use sha256::Sha256;
 
 // A tag under way: the inner hash, and the outer hash after its key block.
@@ -24,14 +24,14 @@ pub struct Hmac {
 // The answer of a start or a feed, and the next state.
 #[derive(Clone, Copy)]
 pub struct Keyed {
-    pub outcome: Outcome,
+    pub outcome: Result<(), Refusal>,
     pub next: Hmac,
 }
 
 // The answer for a whole message: zeros where it or the key is refused.
 #[derive(Clone, Copy)]
 pub struct Tagged {
-    pub outcome: Outcome,
+    pub outcome: Result<(), Refusal>,
     pub tag: [u8; 32],
 }
 
@@ -97,12 +97,12 @@ impl Hmac {
     {
         if refusals::limits::message_fits(key.len()) {
             return Keyed {
-                outcome: Outcome::Accepted,
+                outcome: Ok(()),
                 next: Hmac::begin(key_block(key)),
             };
         }
         Keyed {
-            outcome: Outcome::Refused(Refusal::TooLong),
+            outcome: Err(Refusal::TooLong),
             next: Hmac::close(),
         }
     }
@@ -140,13 +140,13 @@ pub fn tag(key: &[u8], m: &[u8]) -> Tagged
         if refusals::limits::message_fits(m.len()) {
             let tag = Hmac::start(key).next.feed(m).next.finish();
             return Tagged {
-                outcome: Outcome::Accepted,
+                outcome: Ok(()),
                 tag,
             };
         }
     }
     Tagged {
-        outcome: Outcome::Refused(Refusal::TooLong),
+        outcome: Err(Refusal::TooLong),
         tag: [0u8; 32],
     }
 }

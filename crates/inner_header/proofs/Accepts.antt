@@ -5,6 +5,7 @@
 --   writable_writes    THE THEOREM: what is not refused is written, and the answer is the payload's length
 --   writable_reads     so what is not refused is written, and read with the same algorithm, key, attachments and document
 -- Assumes nothing.
+use Rattle.std.specs.Prelude.{Ok}
 use mathlib.Core.Path.{◌≡◌}
 use mathlib.Core.List.{List, [], ◌∷◌}
 use Prim.Native.Nat.{ℕ, ◌^◌, ◌<◌}
@@ -12,8 +13,6 @@ use native.Mathlib.Omega.{arith}
 use lib.ListN.{length, length-append}
 use borrow.Author.Tests.{le-leb}
 use Rattle.refusals.specs.Limits.{payload_limit}
-use Rattle.refusals.specs.declared.Outcome.TheVariants as outcome
-use Rattle.refusals.specs.declared.Written.TheVariants as written
 use Rattle.refusals.proofs.Laws.Limits.{payload_size}
 use Rattle.fields.specs.Fields.{field_bytes}
 use Rattle.fields.proofs.Laws.Written.{length-field_bytes}
@@ -32,12 +31,12 @@ values_flagged (v ∷ vs) f h =
 
 module _ (algorithm : ℕ) (key : List ℕ) (vs : List (List ℕ)) (document : List ℕ) (room : ℕ)
     (w : Writable algorithm key vs document room) where
-  verdict_is : verdict (run (run_bytes vs)) ≡ outcome.Accepted
+  verdict_is : verdict (run (run_bytes vs)) ≡ Ok tt
   unfolding verdict
   verdict_is = rw (run_values vs (values_flagged vs w.flagged (omega (arith, w.payload_le, payload_size))))
 
   -- THE THEOREM
-  pub writable_writes : writing algorithm key (run_bytes vs) document room ≡ written.Wrote (size_of key vs document)
+  pub writable_writes : writing algorithm key (run_bytes vs) document room ≡ Ok (size_of key vs document)
   unfolding writing planned run_then sized
   writable_writes =
       rw (

@@ -12,7 +12,6 @@ use Rattle.refusals.specs.Limits.{payload_limit}
 use Rattle.refusals.specs.declared.Refusal.TheVariants.{CutShort, WrongSize, Repeated, UnknownField, Absent, Unlisted}
 use Rattle.fields.specs.Fields.{fits, value_at, field_at, field_bytes}
 use Rattle.std.specs.Prelude.{Ok, Err}
-use Rattle.refusals.specs.declared.Written.TheVariants as written
 use Rattle.inner_header.specs.InnerHeader.{
   rule_of,
   repeated,
@@ -104,12 +103,12 @@ unfolding inner inner_of opened judged judged_by fault walk walk_in put field_of
 inner-unlisted = refl
 
 -- a run with a field of ID 2: 7
-writing-key : writing 2 [] (field_bytes 2 (0x00 ∷ [])) [] 100 ≡ written.Refused (UnknownField 0)
+writing-key : writing 2 [] (field_bytes 2 (0x00 ∷ [])) [] 100 ≡ Err (UnknownField 0)
 unfolding writing planned run_then verdict run run_from run_in before run_at field_at value_at fits int32 le le_bytes
     field_bytes
 writing-key = refl
 
 -- the smallest payload has 19 bytes
-writing_least : writing 2 [] [] [] 19 ≡ written.Wrote 19
+writing_least : writing 2 [] [] [] 19 ≡ Ok 19
 unfolding writing planned run_then verdict run run_from sized payload_limit
 writing_least = refl

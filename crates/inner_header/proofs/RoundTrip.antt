@@ -31,7 +31,6 @@ use Rattle.slices.specs.Over.{over}
 use Rattle.slices.proofs.Laws.Over.{take_over}
 use Rattle.refusals.specs.declared.Refusal.{Refusal}
 use Rattle.refusals.specs.declared.Refusal.TheVariants.{Absent}
-use Rattle.refusals.specs.declared.Outcome.TheVariants as outcome
 use Rattle.refusals.specs.Limits.{payload_limit}
 use Rattle.refusals.proofs.Laws.Limits.{payload_size}
 use Rattle.fields.specs.declared.Place.{Place}
@@ -39,7 +38,6 @@ use Rattle.fields.specs.Fields.{bytes_at, nowhere}
 use Rattle.fields.proofs.Laws.Written.{further, get_or_inside, bytes_at_inside}
 use Rattle.inner_header.specs.declared.Inner.{Inner}
 use Rattle.std.specs.Prelude.{Ok, Err}
-use Rattle.refusals.specs.declared.Written.TheVariants as written
 use Rattle.inner_header.specs.InnerHeader.{
   end_field,
   Walked,
@@ -126,7 +124,7 @@ unfolding inner attachment
 attachment-refused s i r e = refused_of s i r (opened s) e
 
 -- the run's fields, where its verdict is sound
-run_of : (w : Run) → verdict w ≡ outcome.Accepted → (l : List Place) × (w ≡ all_fine l)
+run_of : (w : Run) → verdict w ≡ (Ok tt) → (l : List Place) × (w ≡ all_fine l)
 unfolding verdict
 run_of (all_fine l) e = (l, refl)
 run_of (writer.refused r) e = let z : ◌≡◌ {A = ℕ} 0 1 = cc in absurd (omega arith)
@@ -138,7 +136,7 @@ listed_small a t =
     (λ u. let e = eqb-true a 3 (rw u at t) in omega arith)
 
 module _ (algorithm : ℕ) (key attachments document : List ℕ) (room n : ℕ)
-    (wrote : writing algorithm key attachments document room ≡ written.Wrote n) where
+    (wrote : writing algorithm key attachments document room ≡ Ok n) where
   abbrev whole : List ℕ
   whole = payload_bytes algorithm key attachments document
 
@@ -245,7 +243,7 @@ value_content s p v h e =
     rw (← drop-drop 1 p.start s, take_behind p.length (drop p.start s) h) (ap (λ (x : List ℕ). drop 1 x) e)
 
 pub attachment_values : (algorithm : ℕ) (key : List ℕ) (vs : List (List ℕ)) (document : List ℕ) (room n : ℕ) → Values vs
-    → writing algorithm key (run_bytes vs) document room ≡ written.Wrote n → (i : ℕ) → i < length vs
+    → writing algorithm key (run_bytes vs) document room ≡ Ok n → (i : ℕ) → i < length vs
     → ShowsValue (get_or vs i []) (payload_bytes algorithm key (run_bytes vs) document)
     (attachment (payload_bytes algorithm key (run_bytes vs) document) i)
 attachment_values algorithm key vs document room n w e i h =

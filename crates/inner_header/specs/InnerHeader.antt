@@ -18,8 +18,7 @@ use Rattle.std.specs.Prelude.{Bool, false, cond, ◌||◌, List, [], ◌∷◌, 
 use Rattle.words.specs.Endian.{le}
 use Rattle.refusals.specs.declared.Refusal.{Refusal}
 use Rattle.refusals.specs.declared.Refusal.TheVariants.{TooLong, CutShort, Absent, Unlisted}
-use Rattle.refusals.specs.declared.Outcome.{Outcome}
-use Rattle.refusals.specs.declared.Outcome.TheVariants as outcome
+use Rattle.refusals.specs.Numbers.{Outcome}
 use Rattle.refusals.specs.Limits.{payload_limit}
 use Rattle.fields.specs.declared.Place.{Place}
 use Rattle.fields.specs.declared.SizeRule.{SizeRule}
@@ -87,13 +86,13 @@ unfoldable pub fault : List ℕ → Place → Place → ℕ → Outcome
 fault s a k end =
     cond (given a)
     (cond (given k)
-    (cond (algorithm_listed (le 4 s a.start)) outcome.Accepted (outcome.Refused (Unlisted (begin a))))
-    (outcome.Refused (Absent (end_field end))))
-    (outcome.Refused (Absent (end_field end)))
+    (cond (algorithm_listed (le 4 s a.start)) (Ok tt) (Err (Unlisted (begin a))))
+    (Err (Absent (end_field end))))
+    (Err (Absent (end_field end)))
 
 unfoldable pub judged_by : Outcome → Fields → ℕ → Walked
-judged_by outcome.Accepted f end = ended f end
-judged_by (outcome.Refused r) f end = refused r
+judged_by (Ok tt) f end = ended f end
+judged_by (Err r) f end = refused r
 
 unfoldable pub judged : List ℕ → Walked → Walked
 judged s (ended f end) = judged_by (fault s f.algorithm f.key end) f end

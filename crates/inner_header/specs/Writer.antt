@@ -16,16 +16,14 @@ use Rattle.std.specs.Prelude.{false, cond, List, [], ◌∷◌, ◌++◌, ℕ, z
 use Rattle.words.specs.Endian.{le_bytes}
 use Rattle.refusals.specs.declared.Refusal.{Refusal}
 use Rattle.refusals.specs.declared.Refusal.TheVariants.{TooLong, NoRoom, Unlisted}
-use Rattle.refusals.specs.declared.Outcome.{Outcome}
-use Rattle.refusals.specs.declared.Outcome.TheVariants as outcome
+use Rattle.refusals.specs.Numbers.{Outcome}
 use Rattle.refusals.specs.Numbers.{unplaced}
 use Rattle.refusals.specs.Limits.{payload_limit}
 use Rattle.fields.specs.declared.Place.{Place}
 use Rattle.fields.specs.declared.SizeRule.TheVariants.{AtLeast}
 use Rattle.fields.specs.Fields.{end_of, field_at, field_bytes}
 use Rattle.inner_header.specs.InnerHeader.{algorithm_listed}
-use Rattle.refusals.specs.declared.Written.{Written}
-use Rattle.refusals.specs.declared.Written.TheVariants as written
+use Rattle.refusals.specs.Numbers.{Written}
 
 -- the places of the run's values, in order; or why the run is refused
 pub data Run : Type 0 where
@@ -58,8 +56,8 @@ run_bytes [] = []
 run_bytes (v ∷ vs) = field_bytes 3 v ++ run_bytes vs
 
 unfoldable pub verdict : Run → Outcome
-verdict (all_fine l) = outcome.Accepted
-verdict (refused r) = outcome.Refused (unplaced r)
+verdict (all_fine l) = Ok tt
+verdict (refused r) = Err (unplaced r)
 
 -- the fields 1 and 2, the run, the field 0, the document
 unfoldable pub payload_bytes : ℕ → List ℕ → List ℕ → List ℕ → List ℕ
@@ -73,18 +71,18 @@ payload_length key attachments document = 19 + key + attachments + document
 -- payload length (1), room (17)
 unfoldable pub sized : ℕ → ℕ → Written
 sized n room =
-    cond (leb n payload_limit) (cond (leb n room) (written.Wrote n) (written.Refused NoRoom)) (written.Refused TooLong)
+    cond (leb n payload_limit) (cond (leb n room) (Ok n) (Err NoRoom)) (Err TooLong)
 
 unfoldable pub run_then : Outcome → Written → Written
-run_then outcome.Accepted next = next
-run_then (outcome.Refused r) next = written.Refused r
+run_then (Ok tt) next = next
+run_then (Err r) next = Err r
 
 -- algorithm (9), the run's fields, payload length (1), room (17)
 unfoldable pub planned : ℕ → ℕ → List ℕ → ℕ → ℕ → Written
 planned algorithm key attachments document room =
     cond (algorithm_listed algorithm)
     (run_then (verdict (run attachments)) (sized (payload_length key (length attachments) document) room))
-    (written.Refused (Unlisted 0))
+    (Err (Unlisted 0))
 
 unfoldable pub writing : ℕ → List ℕ → List ℕ → List ℕ → ℕ → Written
 writing algorithm key attachments document room =
@@ -92,8 +90,8 @@ writing algorithm key attachments document room =
 
 -- the bytes that the lent output then has at its front: none on a refusal
 unfoldable pub due : Written → List ℕ → List ℕ
-due (written.Wrote n) w = w
-due (written.Refused r) w = []
+due (Ok n) w = w
+due (Err r) w = []
 
 unfoldable pub written_bytes : ℕ → List ℕ → List ℕ → List ℕ → ℕ → List ℕ
 written_bytes algorithm key attachments document room =

@@ -15,7 +15,7 @@ ghost use Rattle.inner_header.specs.Answers as answers;
 ghost use Rattle.inner_header.specs.Tally as tally;
 
 use fields::{Place, SizeRule};
-use refusals::{Outcome, Refusal};
+use refusals::Refusal;
 
 pub mod writer;
 
@@ -175,20 +175,20 @@ fn end_field(end: usize) -> usize
 }
 
 // Algorithm and key present, then the algorithm listed.
-fn fault(s: &[u8], t: Tally, end: usize) -> Outcome
+fn fault(s: &[u8], t: Tally, end: usize) -> Result<(), Refusal>
     ensures { result ≡ kdbx4.fault s.now t.algorithm t.key end }
 {
     if t.algorithm.start == 0 {
-        return Outcome::Refused(Refusal::Absent(end_field(end)));
+        return Err(Refusal::Absent(end_field(end)));
     }
     if t.key.start == 0 {
-        return Outcome::Refused(Refusal::Absent(end_field(end)));
+        return Err(Refusal::Absent(end_field(end)));
     }
     if is_algorithm(words::le::u32_at(s, t.algorithm.start)) {
-        return Outcome::Accepted;
+        return Ok(());
     }
     let p = t.algorithm;
-    Outcome::Refused(Refusal::Unlisted(fields::begin(p)))
+    Err(Refusal::Unlisted(fields::begin(p)))
 }
 
 // All the reader's checks, with the attachment of the index.
@@ -200,8 +200,8 @@ fn judge(s: &[u8], index: usize) -> Result<(Tally, usize), Refusal>
     }
     let (t, end) = walk(s, index)?;
     match fault(s, t, end) {
-        Outcome::Refused(r) => Err(r),
-        Outcome::Accepted => Ok((t, end)),
+        Err(r) => Err(r),
+        Ok(()) => Ok((t, end)),
     }
 }
 

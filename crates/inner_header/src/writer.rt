@@ -10,16 +10,16 @@ ghost use Rattle.inner_header.specs.Writer as kdbx4;
 
 use crate::is_algorithm;
 use fields::SizeRule;
-use refusals::{Outcome, Refusal, Written};
+use refusals::Refusal;
 
 // Whether a run is fields of ID 3 with a flags byte at least, or its first fault.
-fn check_run(run: &[u8]) -> Outcome
+fn check_run(run: &[u8]) -> Result<(), Refusal>
     ensures { result ≡ kdbx4.verdict (kdbx4.run run.now) }
 {
     let mut at: usize = 0;
     for _ in 0..run.len() {
         if run.len() <= at {
-            return Outcome::Accepted;
+            return Ok(());
         }
         match fields::field_at(
             run,
@@ -28,17 +28,17 @@ fn check_run(run: &[u8]) -> Outcome
             false,
             SizeRule::AtLeast(1),
         ) {
-            Err(r) => return Outcome::Refused(r.unplaced()),
+            Err(r) => return Err(r.unplaced()),
             Ok((_, p)) => {
                 at = p.start + p.length;
             }
         }
     }
-    Outcome::Accepted
+    Ok(())
 }
 
 // Whether a payload of so many parts' bytes is within its limit and has room.
-fn size(key: usize, run: usize, document: usize, room: usize) -> Written
+fn size(key: usize, run: usize, document: usize, room: usize) -> Result<usize, Refusal>
     ensures { result ≡ kdbx4.sized (kdbx4.payload_length key run document) room }
 {
     if refusals::limits::payload_fits(key) {
@@ -47,30 +47,36 @@ fn size(key: usize, run: usize, document: usize, room: usize) -> Written
                 let n = 19 + key + run + document;
                 if refusals::limits::payload_fits(n) {
                     if n <= room {
-                        return Written::Wrote(n);
+                        return Ok(n);
                     }
-                    return Written::Refused(Refusal::NoRoom);
+                    return Err(Refusal::NoRoom);
                 }
-                return Written::Refused(Refusal::TooLong);
+                return Err(Refusal::TooLong);
             }
-            return Written::Refused(Refusal::TooLong);
+            return Err(Refusal::TooLong);
         }
-        return Written::Refused(Refusal::TooLong);
+        return Err(Refusal::TooLong);
     }
-    Written::Refused(Refusal::TooLong)
+    Err(Refusal::TooLong)
 }
 
 // All the writer's checks.
-fn plan(algorithm: u32, key: usize, run: &[u8], document: usize, room: usize) -> Written
+fn plan(
+    algorithm: u32,
+    key: usize,
+    run: &[u8],
+    document: usize,
+    room: usize,
+) -> Result<usize, Refusal>
     ensures { result ≡ kdbx4.planned algorithm key run.now document room }
 {
     if is_algorithm(algorithm) {
         match check_run(run) {
-            Outcome::Refused(r) => return Written::Refused(r),
-            Outcome::Accepted => return size(key, run.len(), document, room),
+            Err(r) => return Err(r),
+            Ok(()) => return size(key, run.len(), document, room),
         }
     }
-    Written::Refused(Refusal::Unlisted(0))
+    Err(Refusal::Unlisted(0))
 }
 
 // Lays a payload over the front of the lent output.
@@ -89,15 +95,21 @@ fn lay(algorithm: u32, key: &[u8], run: &[u8], document: &[u8], out: &mut [u8])
 }
 
 // Writes an inner header of an algorithm, a key and a run of attachments, and the document behind it.
-pub fn write(algorithm: u32, key: &[u8], run: &[u8], document: &[u8], out: &mut [u8]) -> Written
+pub fn write(
+    algorithm: u32,
+    key: &[u8],
+    run: &[u8],
+    document: &[u8],
+    out: &mut [u8],
+) -> Result<usize, Refusal>
     ensures value { result ≡ kdbx4.writing algorithm key.now run.now document.now (length out.old) }
     ensures out_after { out.new ≡ over (kdbx4.written_bytes algorithm key.now run.now document.now (length out.old)) out.old }
 {
     match plan(algorithm, key.len(), run, document.len(), out.len()) {
-        Written::Refused(r) => return Written::Refused(r),
-        Written::Wrote(n) => {
+        Err(r) => return Err(r),
+        Ok(n) => {
             lay(algorithm, key, run, document, out);
-            return Written::Wrote(n);
+            return Ok(n);
         }
     }
 }

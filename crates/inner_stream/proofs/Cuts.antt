@@ -13,6 +13,7 @@
 --   cut_in_two                          cut in two
 --   cut_numbers                         .. accepted or not: the number is that of the second part, with room for both
 -- Assumes nothing.
+use Rattle.std.specs.Prelude.{Ok}
 use mathlib.Core.Path.{◌≡◌, refl, sym, ap, ◌∙◌}
 use mathlib.Core.Bool.{true}
 use mathlib.Core.List.{List, ◌++◌}
@@ -24,9 +25,7 @@ use lib.ListN.{length, drop, length-append, length-drop}
 use borrow.Author.Tests.{le-leb}
 use Rattle.words.proofs.Laws.Cases.{by_bool}
 use Rattle.refusals.specs.Limits.{stream_limit}
-use Rattle.refusals.specs.Numbers.{of_written}
-use Rattle.refusals.specs.declared.Outcome.TheVariants as outcome
-use Rattle.refusals.specs.declared.Written.TheVariants.{Wrote}
+use Rattle.refusals.specs.Numbers.{number_of}
 use Rattle.slices.proofs.Laws.Over.{take_over, drop_over, over_append}
 use Rattle.stream.proofs.Laws.Apply.{apply-apply, apply-append}
 use Rattle.inner_stream.specs.InnerStream.{listed, planned, applying, applied_bytes}
@@ -46,7 +45,7 @@ use Rattle.inner_stream.proofs.Laws.{
 use Rattle.inner_stream.proofs.Stretches.{left_written, state_operation}
 
 -- a stretch that a state accepts
-module _ (from : InnerStream) (s : List ℕ) (room n : ℕ) (e : (applied from s room).written ≡ Wrote n) where
+module _ (from : InnerStream) (s : List ℕ) (room n : ℕ) (e : (applied from s room).written ≡ Ok n) where
   accepted-answer : (is_open from ≡ true) × Planned from.position (length s) room n
   unfolding applied
   accepted-answer = accepted-planned from (length s) room n (sym (left_written from (answer from (length s) room)) ∙ e)
@@ -57,7 +56,7 @@ module _ (from : InnerStream) (s : List ℕ) (room n : ℕ) (e : (applied from s
   pub accepted_room : length s ≤ room
   accepted_room = accepted-answer.1.room_is
 
-pub state_returned : (from : InnerStream) (s out : List ℕ) (n : ℕ) → (applied from s (length out)).written ≡ Wrote n
+pub state_returned : (from : InnerStream) (s out : List ℕ) (n : ℕ) → (applied from s (length out)).written ≡ Ok n
     → StateReturned from s out
 unfolding covered
 state_returned from s out n e =
@@ -75,7 +74,7 @@ state_returned from s out n e =
     }
 
 pub state_cut_in_two : (from : InnerStream) (a b out : List ℕ) (n : ℕ)
-    → (applied from (a ++ b) (length out)).written ≡ Wrote n
+    → (applied from (a ++ b) (length out)).written ≡ Ok n
     → StateCutInTwo from a b out
 unfolding covered
 state_cut_in_two from a b out n e =
@@ -113,8 +112,8 @@ state_cut_in_two from a b out n e =
 
 -- a stretch that the operation accepts
 module _ (algorithm : ℕ) (key : List ℕ) where
-  accepting : (position : ℕ) (s : List ℕ) (room n : ℕ) → applying algorithm key position s room ≡ Wrote n
-      → ((started algorithm key).outcome ≡ outcome.Accepted) × Planned position (length s) room n
+  accepting : (position : ℕ) (s : List ℕ) (room n : ℕ) → applying algorithm key position s room ≡ Ok n
+      → ((started algorithm key).outcome ≡ (Ok tt)) × Planned position (length s) room n
   unfolding applying started
   accepting position s room n e =
       by_bool (listed algorithm)
@@ -132,17 +131,17 @@ module _ (algorithm : ℕ) (key : List ℕ) where
       → ((applied (stream_at algorithm key position) s room).written ≡ applying algorithm key position s room)
       × (handed (stream_at algorithm key position) s room ≡ applied_bytes algorithm key position s room)
 
-  module _ (position : ℕ) (s : List ℕ) (room n : ℕ) (e : applying algorithm key position s room ≡ Wrote n) where
+  module _ (position : ℕ) (s : List ℕ) (room n : ℕ) (e : applying algorithm key position s room ≡ Ok n) where
     answers_at : (p : ℕ) → p ≤ position + length s → SameAnswers p
     answers_at p h =
         let q = accepting position s room n e in
         let f : p ≤ stream_limit = omega (arith, q.1.end_fits) in
         λ x m. state_operation algorithm key q.0 p x m f
 
-    at_position : (applied (stream_at algorithm key position) s room).written ≡ Wrote n
+    at_position : (applied (stream_at algorithm key position) s room).written ≡ Ok n
     at_position = (answers_at position (omega arith) s room).0 ∙ e
 
-  pub returned : (position : ℕ) (s out : List ℕ) (n : ℕ) → applying algorithm key position s (length out) ≡ Wrote n
+  pub returned : (position : ℕ) (s out : List ℕ) (n : ℕ) → applying algorithm key position s (length out) ≡ Ok n
       → Returned algorithm key position s out
   returned position s out n e =
       let from : InnerStream = stream_at algorithm key position in
@@ -155,13 +154,13 @@ module _ (algorithm : ℕ) (key : List ℕ) where
             rw (← g) (sym (same (handed from s (length out)) room).0
             ∙ ap (λ (x : Applied). x.written) (b.answer room h)
             ∙ t
-            ∙ ap Wrote (accepted_long from s (length out) n t));
+            ∙ ap Ok (accepted_long from s (length out) n t));
         bytes = λ room h. rw (← g) (sym (same (handed from s (length out)) room).1 ∙ b.bytes room h);
         lent = λ back h. rw (← g, ← (same _ (length back)).1) (b.lent back h);
       }
 
   pub cut_in_two : (position : ℕ) (a b out : List ℕ) (n : ℕ)
-      → applying algorithm key position (a ++ b) (length out) ≡ Wrote n
+      → applying algorithm key position (a ++ b) (length out) ≡ Ok n
       → CutInTwo algorithm key position a b out
   cut_in_two position a b out n e =
       let from : InnerStream = stream_at algorithm key position in
@@ -189,8 +188,8 @@ module _ (algorithm : ℕ) (key : List ℕ) where
 
   -- with room for it, a stretch is accepted where its second part is, and refused by the number that refuses that
   pub cut_numbers : (position : ℕ) (a b : List ℕ) (m n : ℕ) → length (a ++ b) ≤ m → length b ≤ n
-      → of_written (applying algorithm key (position + length a) b n)
-      ≡ of_written (applying algorithm key position (a ++ b) m)
+      → number_of (applying algorithm key (position + length a) b n)
+      ≡ number_of (applying algorithm key position (a ++ b) m)
   unfolding applying planned
   cut_numbers position a b m n h k =
       let e : position + length (a ++ b) ≡ position + length a + length b = omega (arith, length-append a b) in

@@ -9,6 +9,7 @@
 --                                        the state of an algorithm and a key covers as the operation does
 -- Not here: lists of stretches (Stretches).
 -- Assumes nothing.
+use Rattle.std.specs.Prelude.{Ok, Err}
 use mathlib.Core.Path.{◌≡◌, refl}
 use mathlib.Core.Bool.{true}
 use mathlib.Core.List.{List, ◌++◌}
@@ -19,8 +20,7 @@ use lib.ListN.{length, drop}
 use borrow.Author.Tests.{leb-true, le-leb}
 use Rattle.words.proofs.Laws.Cases.{by_bool, and_true}
 use Rattle.refusals.specs.Limits.{message_limit, stream_limit}
-use Rattle.refusals.specs.declared.Written.{Written}
-use Rattle.refusals.specs.declared.Written.TheVariants.{Wrote, Refused}
+use Rattle.refusals.specs.Numbers.{Written}
 use Rattle.refusals.proofs.Laws.Limits.{message_stream_key}
 use Rattle.slices.specs.Over.{over}
 use Rattle.stream.proofs.Laws.Apply.{length-apply}
@@ -49,8 +49,8 @@ pub record Planned (position n room m : ℕ) : Type 0 where
 module _ (position n room : ℕ) where
   -- nothing is said of a refusal
   abbrev Kept : Written → Type 0
-  Kept (Wrote m) = Planned position n room m
-  Kept (Refused r) = 0 ≤ 0
+  Kept (Ok m) = Planned position n room m
+  Kept (Err r) = 0 ≤ 0
 
   planned_kept : Kept (planned position n room)
   unfolding planned
@@ -65,11 +65,11 @@ module _ (position n room : ℕ) where
       (λ u. simp (t, u) (omega arith)))
       (λ t. by_bool (leb n room) (λ u. simp (t, u) (omega arith)) (λ u. simp (t, u) (omega arith)))
 
-  pub planned-wrote : (m : ℕ) → planned position n room ≡ Wrote m → Planned position n room m
+  pub planned-wrote : (m : ℕ) → planned position n room ≡ Ok m → Planned position n room m
   planned-wrote m e = rw e at planned_kept
 
 -- .. of a state
-pub accepted-planned : (s : InnerStream) (n room m : ℕ) → answer s n room ≡ Wrote m
+pub accepted-planned : (s : InnerStream) (n room m : ℕ) → answer s n room ≡ Ok m
     → (is_open s ≡ true) × Planned s.position n room m
 unfolding answer
 accepted-planned s n room m e =
@@ -102,7 +102,7 @@ open_behind s n o h = rw (open_cipher s o, le-leb (s.position + n) stream_limit 
 
 pub open_takes : (s : InnerStream) (bytes : List ℕ) (room : ℕ) → is_open s ≡ true
     → s.position + length bytes ≤ stream_limit → length bytes ≤ room
-    → (applied s bytes room ≡ record { written = Wrote (length bytes); next = behind s (length bytes) })
+    → (applied s bytes room ≡ record { written = Ok (length bytes); next = behind s (length bytes) })
     × (handed s bytes room ≡ covered s bytes)
 unfolding applied handed answer planned due
 open_takes s bytes room o h k =

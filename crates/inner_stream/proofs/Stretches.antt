@@ -15,6 +15,7 @@
 --   refused-start        a refused start leaves a state that is not open
 --   refused-apply        a state that is not open refuses every stretch with 19, hands nothing over and stays
 -- Assumes nothing.
+use Rattle.std.specs.Prelude.{Ok, Err}
 use mathlib.Core.Path.{◌≡◌, refl, sym, ap, ◌∙◌}
 use mathlib.Core.Bool.{true, false}
 use mathlib.Core.List.{List, [], ◌∷◌, ◌++◌}
@@ -29,10 +30,8 @@ use Rattle.words.proofs.Laws.Cases.{by_bool}
 use Rattle.refusals.specs.Limits.{stream_limit}
 use Rattle.refusals.specs.declared.Refusal.{Refusal}
 use Rattle.refusals.specs.declared.Refusal.TheVariants.{OutOfSequence}
-use Rattle.refusals.specs.declared.Outcome.{Outcome}
-use Rattle.refusals.specs.declared.Outcome.TheVariants as outcome
-use Rattle.refusals.specs.declared.Written.{Written}
-use Rattle.refusals.specs.declared.Written.TheVariants as written
+use Rattle.refusals.specs.Numbers.{Outcome}
+use Rattle.refusals.specs.Numbers.{Written}
 use Rattle.refusals.proofs.Laws.Limits.{stream_some}
 use Rattle.stream.specs.Stream.{keystream, apply}
 use Rattle.stream.proofs.Laws.Apply.{apply-nil, apply-append}
@@ -71,14 +70,14 @@ took_by : (s : InnerStream) (bytes : List ℕ) (room : ℕ) (w : Written) → is
     → planned s.position (length bytes) room ≡ w
     → Took s (due w bytes) (due w (covered s bytes)) (left s w).next
 unfolding due covered
-took_by s bytes room (written.Wrote m) o e =
+took_by s bytes room (Ok m) o e =
     let p = planned-wrote s.position (length bytes) room m e in
     record { hands = refl; stands = ap (behind s) p.long; fits = p.end_fits }
-took_by s bytes room (written.Refused r) o e = took_none s o
+took_by s bytes room (Err r) o e = took_none s o
 
 pub left_written : (s : InnerStream) (w : Written) → (left s w).written ≡ w
-left_written s (written.Wrote m) = refl
-left_written s (written.Refused r) = refl
+left_written s (Ok m) = refl
+left_written s (Err r) = refl
 
 answer_open : (s : InnerStream) (n room : ℕ) → is_open s ≡ true → planned s.position n room ≡ answer s n room
 unfolding answer
@@ -119,7 +118,7 @@ stretches (x ∷ xs) s o =
 
 -- .. gives what one stretch over the bytes taken, joined, gives: it is accepted, with the same bytes and the same state
 pub one_stretch : (xs : List Stretch) (s : InnerStream) (room : ℕ) → is_open s ≡ true → length (taken s xs) ≤ room
-    → (applied s (taken s xs) room ≡ record { written = written.Wrote (length (taken s xs)); next = after s xs })
+    → (applied s (taken s xs) room ≡ record { written = Ok (length (taken s xs)); next = after s xs })
     × (state.handed s (taken s xs) room ≡ handed s xs)
 unfolding covered
 one_stretch xs s room o h =
@@ -135,7 +134,7 @@ accepted-joined (x ∷ xs) s h = rw h.0 (ap (λ (l : List ℕ). x.bytes ++ l) (a
 
 pub accepted_stretches : (xs : List Stretch) (s : InnerStream) (room : ℕ) → is_open s ≡ true → Accepted s xs
     → length (joined xs) ≤ room
-    → (applied s (joined xs) room ≡ record { written = written.Wrote (length (joined xs)); next = after s xs })
+    → (applied s (joined xs) room ≡ record { written = Ok (length (joined xs)); next = after s xs })
     × (state.handed s (joined xs) room ≡ handed s xs)
 accepted_stretches xs s room o a h =
     let e = accepted-joined xs s a in
@@ -143,9 +142,9 @@ accepted_stretches xs s room o a h =
 
 -- what a start leaves, by its outcome
 abbrev Begun : ℕ → List ℕ → Outcome → InnerStream → Type 0
-Begun algorithm key outcome.Accepted n =
+Begun algorithm key (Ok tt) n =
     (listed algorithm ≡ true) × (leb (length key) stream_limit ≡ true) × (n ≡ stream_at algorithm key 0)
-Begun algorithm key (outcome.Refused r) n = n ≡ closed
+Begun algorithm key (Err r) n = n ≡ closed
 
 begun : (algorithm : ℕ) (key : List ℕ) → Begun algorithm key (started algorithm key).outcome (started algorithm key).next
 unfolding started
@@ -154,8 +153,8 @@ begun algorithm key =
     (λ t. by_bool (leb (length key) stream_limit) (λ u. rw (t, u) (t, u, refl)) (λ u. rw (t, u) refl))
     (λ t. rw t refl)
 
-module _ (algorithm : ℕ) (key : List ℕ) (e : (started algorithm key).outcome ≡ outcome.Accepted) where
-  accepted : Begun algorithm key outcome.Accepted (started algorithm key).next
+module _ (algorithm : ℕ) (key : List ℕ) (e : (started algorithm key).outcome ≡ (Ok tt)) where
+  accepted : Begun algorithm key (Ok tt) (started algorithm key).next
   accepted = rw e at (begun algorithm key)
 
   open_at : (position : ℕ) → position ≤ stream_limit → is_open (stream_at algorithm key position) ≡ true
@@ -197,7 +196,7 @@ module _ (algorithm : ℕ) (key : List ℕ) (e : (started algorithm key).outcome
   -- state behind them
   pub carried : (xs : List Stretch) (room : ℕ) → length (taken (started algorithm key).next xs) ≤ room
       → (inner.applying algorithm key 0 (taken (started algorithm key).next xs) room
-      ≡ written.Wrote (length (taken (started algorithm key).next xs)))
+      ≡ Ok (length (taken (started algorithm key).next xs)))
       × (inner.applied_bytes algorithm key 0 (taken (started algorithm key).next xs) room
       ≡ handed (started algorithm key).next xs)
       × (after (started algorithm key).next xs ≡ stream_at algorithm key (length (taken (started algorithm key).next xs)))
@@ -228,14 +227,14 @@ module _ (algorithm : ℕ) (key : List ℕ) (e : (started algorithm key).outcome
       (rw (accepted.2, ← h) p.0, rw (accepted.2, e₂, ← k) q.0)
 
 -- a refused start leaves a state that is not open
-pub refused-start : (algorithm : ℕ) (key : List ℕ) (r : Refusal) → (started algorithm key).outcome ≡ outcome.Refused r
+pub refused-start : (algorithm : ℕ) (key : List ℕ) (r : Refusal) → (started algorithm key).outcome ≡ Err r
     → is_open (started algorithm key).next ≡ false
 unfolding is_open
 refused-start algorithm key r e = ap is_open (rw e at (begun algorithm key))
 
 -- a state that is not open refuses every stretch with 19, writes nothing and stays
 pub refused-apply : (s : InnerStream) (bytes : List ℕ) (room : ℕ) → is_open s ≡ false
-    → (applied s bytes room ≡ record { written = written.Refused OutOfSequence; next = s })
+    → (applied s bytes room ≡ record { written = Err OutOfSequence; next = s })
     × (state.handed s bytes room ≡ [])
 unfolding applied state.handed answer due
 refused-apply s bytes room e = rw e (refl, refl)

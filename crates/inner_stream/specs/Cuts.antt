@@ -7,8 +7,7 @@
 -- state; both say the answers, the bytes handed over and the lent output, as the contracts of `apply` have them.
 -- Not here: lists of stretches (Stretches), the laws over the stream block (crate stream, proofs, Laws.Apply).
 -- Assumes nothing.
-use Rattle.std.specs.Prelude.{◌≡◌, List, ◌++◌, ℕ, ◌+◌, ◌≤◌, length, take, drop}
-use Rattle.refusals.specs.declared.Written.TheVariants.{Wrote}
+use Rattle.std.specs.Prelude.{◌≡◌, List, ◌++◌, ℕ, ◌+◌, ◌≤◌, length, take, drop, Ok}
 use Rattle.slices.specs.Over.{over}
 use Rattle.inner_stream.specs.InnerStream.{applying, applied_bytes}
 use Rattle.inner_stream.specs.State.{applied, handed}
@@ -25,7 +24,7 @@ out_from from s out = over (handed from s (length out)) out
 -- what the bytes s give at a position, covered there once more, with room for it
 pub record Returned (algorithm : ℕ) (key : List ℕ) (position : ℕ) (s out : List ℕ) : Type 0 where
   pub accepted : (room : ℕ) → length s ≤ room
-      → applying algorithm key position (applied_bytes algorithm key position s (length out)) room ≡ Wrote (length s)
+      → applying algorithm key position (applied_bytes algorithm key position s (length out)) room ≡ Ok (length s)
   pub bytes : (room : ℕ) → length s ≤ room
       → applied_bytes algorithm key position (applied_bytes algorithm key position s (length out)) room ≡ s
   pub lent : (back : List ℕ) → length s ≤ length back
@@ -33,8 +32,8 @@ pub record Returned (algorithm : ℕ) (key : List ℕ) (position : ℕ) (s out :
 
 -- the bytes a ++ b at a position; a there and b behind it, each with room for it, or b behind a in the same output
 pub record CutInTwo (algorithm : ℕ) (key : List ℕ) (position : ℕ) (a b out : List ℕ) : Type 0 where
-  pub first : (room : ℕ) → length a ≤ room → applying algorithm key position a room ≡ Wrote (length a)
-  pub second : (room : ℕ) → length b ≤ room → applying algorithm key (position + length a) b room ≡ Wrote (length b)
+  pub first : (room : ℕ) → length a ≤ room → applying algorithm key position a room ≡ Ok (length a)
+  pub second : (room : ℕ) → length b ≤ room → applying algorithm key (position + length a) b room ≡ Ok (length b)
   pub bytes : (m n : ℕ) → length a ≤ m → length b ≤ n
       → applied_bytes algorithm key position a m ++ applied_bytes algorithm key (position + length a) b n
       ≡ applied_bytes algorithm key position (a ++ b) (length out)
@@ -51,10 +50,10 @@ pub record StateReturned (from : InnerStream) (s out : List ℕ) : Type 0 where
 
 -- the bytes a ++ b from a state; a, and b from the state behind it: the state behind both is the same
 pub record StateCutInTwo (from : InnerStream) (a b out : List ℕ) : Type 0 where
-  pub first : (room : ℕ) → length a ≤ room → (applied from a room).written ≡ Wrote (length a)
+  pub first : (room : ℕ) → length a ≤ room → (applied from a room).written ≡ Ok (length a)
   pub second : (m n : ℕ) → length a ≤ m → length b ≤ n
       → applied (applied from a m).next b n ≡ record {
-        written = Wrote (length b);
+        written = Ok (length b);
         next = (applied from (a ++ b) (length out)).next;
       }
   pub bytes : (m n : ℕ) → length a ≤ m → length b ≤ n

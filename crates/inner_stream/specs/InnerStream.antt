@@ -10,11 +10,10 @@
 -- Not here: the ciphers (crates chacha20, salsa20), a stream's application (crate stream), the state that carries over
 -- from one stretch to the next (State).
 -- Assumes nothing.
-use Rattle.std.specs.Prelude.{Bool, cond, ◌||◌, List, [], ◌∷◌, ℕ, ◌+◌, eqb, leb, length, take, drop}
+use Rattle.std.specs.Prelude.{Bool, cond, ◌||◌, List, [], ◌∷◌, ℕ, ◌+◌, eqb, leb, length, take, drop, Ok, Err}
 use Rattle.refusals.specs.Limits.{stream_limit}
 use Rattle.refusals.specs.declared.Refusal.TheVariants.{TooLong, NoRoom, Unlisted}
-use Rattle.refusals.specs.declared.Written.{Written}
-use Rattle.refusals.specs.declared.Written.TheVariants.{Wrote, Refused}
+use Rattle.refusals.specs.Numbers.{Written}
 use Rattle.fips180.specs.Fips180.{sha256, sha512, hash}
 use Rattle.stream.specs.Stream as stream
 use Rattle.chacha20.specs.Rfc8439 as rfc8439
@@ -49,19 +48,19 @@ listed algorithm = eqb algorithm 2 || eqb algorithm 3
 -- a stretch of n bytes at a position, with so many lent: where it ends (1), room (17)
 unfoldable pub planned : ℕ → ℕ → ℕ → Written
 planned position n room =
-    cond (leb (position + n) stream_limit) (cond (leb n room) (Wrote n) (Refused NoRoom)) (Refused TooLong)
+    cond (leb (position + n) stream_limit) (cond (leb n room) (Ok n) (Err NoRoom)) (Err TooLong)
 
 -- algorithm (9), the key's length (1), then the stretch
 unfoldable pub applying : ℕ → List ℕ → ℕ → List ℕ → ℕ → Written
 applying algorithm key position s room =
     cond (listed algorithm)
-    (cond (leb (length key) stream_limit) (planned position (length s) room) (Refused TooLong))
-    (Refused (Unlisted 0))
+    (cond (leb (length key) stream_limit) (planned position (length s) room) (Err TooLong))
+    (Err (Unlisted 0))
 
 -- the bytes that the lent output then has at its front: none on a refusal
 unfoldable pub due : Written → List ℕ → List ℕ
-due (Wrote n) w = w
-due (Refused r) w = []
+due (Ok n) w = w
+due (Err r) w = []
 
 unfoldable pub applied_bytes : ℕ → List ℕ → ℕ → List ℕ → ℕ → List ℕ
 applied_bytes algorithm key position s room =

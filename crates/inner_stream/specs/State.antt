@@ -9,13 +9,11 @@
 -- such a state's nonce is zeros and not looked at.
 -- Not here: one stretch straight from the inner key (InnerStream), lists of stretches (Stretches).
 -- Assumes nothing.
-use Rattle.std.specs.Prelude.{Bool, true, false, cond, ◌&&◌, List, [], ℕ, ◌+◌, eqb, leb, length, replicate}
+use Rattle.std.specs.Prelude.{Bool, true, false, cond, ◌&&◌, List, [], ℕ, ◌+◌, eqb, leb, length, replicate, Ok, Err}
 use Rattle.refusals.specs.Limits.{stream_limit}
 use Rattle.refusals.specs.declared.Refusal.{Refusal}
 use Rattle.refusals.specs.declared.Refusal.TheVariants.{TooLong, Unlisted, OutOfSequence}
-use Rattle.refusals.specs.declared.Outcome.TheVariants as outcome
-use Rattle.refusals.specs.declared.Written.{Written}
-use Rattle.refusals.specs.declared.Written.TheVariants as written
+use Rattle.refusals.specs.Numbers.{Written}
 use Rattle.stream.specs.Stream as stream
 use Rattle.chacha20.specs.Rfc8439 as rfc8439
 use Rattle.salsa20.specs.Salsa20 as salsa20
@@ -38,13 +36,13 @@ abbrev pub closed : InnerStream
 closed = record { cipher = Closed; key = replicate 32 0; nonce = replicate 12 0; position = 0 }
 
 abbrev pub refused : Refusal → Started
-refused r = record { outcome = outcome.Refused r; next = closed }
+refused r = record { outcome = Err r; next = closed }
 
 unfoldable pub started : ℕ → List ℕ → Started
 started algorithm key =
     cond (inner.listed algorithm)
     (cond (leb (length key) stream_limit)
-    (record { outcome = outcome.Accepted; next = stream_at algorithm key 0 })
+    (record { outcome = Ok tt; next = stream_at algorithm key 0 })
     (refused TooLong))
     (refused (Unlisted 0))
 
@@ -75,11 +73,11 @@ behind s n = record { cipher = s.cipher; key = s.key; nonce = s.nonce; position 
 
 -- the answer of a stretch, and the state that it leaves
 abbrev pub left : InnerStream → Written → Applied
-left s (written.Wrote n) = record { written = written.Wrote n; next = behind s n }
-left s (written.Refused r) = record { written = written.Refused r; next = s }
+left s (Ok n) = record { written = Ok n; next = behind s n }
+left s (Err r) = record { written = Err r; next = s }
 
 unfoldable pub answer : InnerStream → ℕ → ℕ → Written
-answer s n room = cond (is_open s) (inner.planned s.position n room) (written.Refused OutOfSequence)
+answer s n room = cond (is_open s) (inner.planned s.position n room) (Err OutOfSequence)
 
 unfoldable pub applied : InnerStream → List ℕ → ℕ → Applied
 applied s bytes room = left s (answer s (length bytes) room)

@@ -8,8 +8,7 @@
 --   joined     the bytes of all
 --   Accepted   none of them is refused
 -- Assumes nothing.
-use Rattle.std.specs.Prelude.{◌≡◌, List, [], ◌∷◌, ◌++◌, ℕ, ◌≤◌, length}
-use Rattle.refusals.specs.declared.Written.TheVariants.{Wrote}
+use Rattle.std.specs.Prelude.{◌≡◌, List, [], ◌∷◌, ◌++◌, ℕ, ◌≤◌, length, Ok}
 use Rattle.inner_stream.specs.InnerStream.{due}
 use Rattle.inner_stream.specs.State as state
 use Rattle.inner_stream.specs.declared.InnerStream.{InnerStream}
@@ -40,4 +39,4 @@ joined (x ∷ xs) = x.bytes ++ joined xs
 
 unfoldable pub Accepted : InnerStream → List Stretch → Type 0
 Accepted s [] = 0 ≤ 0
-Accepted s (x ∷ xs) = ((state.applied s x.bytes x.room).written ≡ Wrote (length x.bytes)) × Accepted (next s x) xs
+Accepted s (x ∷ xs) = ((state.applied s x.bytes x.room).written ≡ Ok (length x.bytes)) × Accepted (next s x) xs

@@ -10,14 +10,13 @@
 
 ghost use Rattle.std.specs.Prelude.{◌≡◌, true, ◌+◌, ◌^◌, ◌≤◌, ◌<◌, length, take, drop};
 ghost use Rattle.refusals.specs.Limits.{message_limit};
-ghost use Rattle.refusals.specs.declared.Written.TheVariants as written;
 ghost use Rattle.slices.specs.Over.{over};
 ghost use Rattle.fips180.specs.Fips180 as fips180;
 ghost use Rattle.inner_stream.specs.InnerStream as inner;
 ghost use Rattle.inner_stream.specs.State as state;
 
 use chacha20::ChaCha20;
-use refusals::{Outcome, Refusal, Written};
+use refusals::Refusal;
 use salsa20::Salsa20;
 
 // Salsa20's nonce.
@@ -44,14 +43,14 @@ pub struct InnerStream {
 // The answer of a start, and the state.
 #[derive(Clone, Copy)]
 pub struct Started {
-    pub outcome: Outcome,
+    pub outcome: Result<(), Refusal>,
     pub next: InnerStream,
 }
 
 // The answer of a stretch, and the state behind it.
 #[derive(Clone, Copy)]
 pub struct Applied {
-    pub written: Written,
+    pub written: Result<usize, Refusal>,
     pub next: InnerStream,
 }
 
@@ -108,16 +107,16 @@ fn sha256_of(key: &[u8]) -> [u8; 32]
 }
 
 // Which stretches are taken: 1 where it ends too far, 17 where the output is too short.
-fn plan(position: u64, n: usize, room: usize) -> Written
+fn plan(position: u64, n: usize, room: usize) -> Result<usize, Refusal>
     ensures { result ≡ inner.planned position n room }
 {
     if refusals::limits::stretch_fits(position, n) {
         if n <= room {
-            return Written::Wrote(n);
+            return Ok(n);
         }
-        return Written::Refused(Refusal::NoRoom);
+        return Err(Refusal::NoRoom);
     }
-    Written::Refused(Refusal::TooLong)
+    Err(Refusal::TooLong)
 }
 
 impl InnerStream {
@@ -128,7 +127,7 @@ impl InnerStream {
         if is_listed(algorithm) {
             if refusals::limits::stream_key_fits(key.len()) {
                 return Started {
-                    outcome: Outcome::Accepted,
+                    outcome: Ok(()),
                     next: InnerStream::at(algorithm, key, 0),
                 };
             }
@@ -164,7 +163,7 @@ impl InnerStream {
         ensures { result ≡ state.refused r }
     {
         Started {
-            outcome: Outcome::Refused(r),
+            outcome: Err(r),
             next: InnerStream {
                 cipher: StreamCipher::Closed,
                 key: [0u8; 32],
@@ -211,16 +210,16 @@ impl InnerStream {
     }
 
     // A stretch at the stream's position, into the front of `out`. 1, 17.
-    fn write(self, bytes: &[u8], out: &mut [u8]) -> Written
+    fn write(self, bytes: &[u8], out: &mut [u8]) -> Result<usize, Refusal>
         requires { state.has_cipher self.cipher ≡ true }
         ensures value { result ≡ inner.planned self.position (length bytes.now) (length out.old) }
         ensures out_after { out.new ≡ over (inner.due result (state.covered self bytes.now)) out.old }
     {
         match plan(self.position, bytes.len(), out.len()) {
-            Written::Refused(r) => return Written::Refused(r),
-            Written::Wrote(n) => {
+            Err(r) => return Err(r),
+            Ok(n) => {
                 self.fill(bytes, &mut out[..n]);
-                return Written::Wrote(n);
+                return Ok(n);
             }
         }
     }
@@ -232,8 +231,8 @@ impl InnerStream {
     {
         if self.is_open() {
             match self.write(bytes, out) {
-                Written::Wrote(n) => return self.behind(n),
-                Written::Refused(r) => return self.keep(r),
+                Ok(n) => return self.behind(n),
+                Err(r) => return self.keep(r),
             }
         }
         self.keep(Refusal::OutOfSequence)
@@ -242,13 +241,13 @@ impl InnerStream {
     // The answer of n bytes, and the stream behind them.
     fn behind(self, n: usize) -> Applied
         requires { self.position + n < 2 ^ 64 }
-        ensures { result ≡ state.left self (written.Wrote n) }
+        ensures { result ≡ state.left self (Ok n) }
     {
         let cipher = self.cipher;
         let key = self.key;
         let nonce = self.nonce;
         Applied {
-            written: Written::Wrote(n),
+            written: Ok(n),
             next: InnerStream {
                 cipher,
                 key,
@@ -260,17 +259,23 @@ impl InnerStream {
 
     // A refusal, and the stream as it was.
     fn keep(self, r: Refusal) -> Applied
-        ensures { result ≡ state.left self (written.Refused r) }
+        ensures { result ≡ state.left self (Err r) }
     {
         Applied {
-            written: Written::Refused(r),
+            written: Err(r),
             next: self,
         }
     }
 }
 
 // Covers or uncovers the bytes of a stretch at a position of the stream, into the front of `out`. 9, 1, 17.
-pub fn apply(algorithm: u32, key: &[u8], position: u64, bytes: &[u8], out: &mut [u8]) -> Written
+pub fn apply(
+    algorithm: u32,
+    key: &[u8],
+    position: u64,
+    bytes: &[u8],
+    out: &mut [u8],
+) -> Result<usize, Refusal>
     ensures value { result ≡ inner.applying algorithm key.now position bytes.now (length out.old) }
     ensures out_after { out.new ≡ over (inner.applied_bytes algorithm key.now position bytes.now (length out.old)) out.old }
 {
@@ -279,7 +284,7 @@ pub fn apply(algorithm: u32, key: &[u8], position: u64, bytes: &[u8], out: &mut 
             let stream = InnerStream::at(algorithm, key, position);
             return stream.write(bytes, out);
         }
-        return Written::Refused(Refusal::TooLong);
+        return Err(Refusal::TooLong);
     }
-    Written::Refused(Refusal::Unlisted(0))
+    Err(Refusal::Unlisted(0))
 }

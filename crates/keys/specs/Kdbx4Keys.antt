@@ -11,13 +11,11 @@
 --   "The tag key for number i is SHA-512(i as UInt64, base)"             tag_key
 -- Not here: T itself (the key transformation).
 -- Assumes nothing.
-use Rattle.std.specs.Prelude.{Bool, true, false, cond, not, ◌&&◌, ◌||◌, List, [], ◌∷◌, ◌++◌, ℕ, eqb, leb, length, replicate}
+use Rattle.std.specs.Prelude.{Bool, true, false, cond, not, ◌&&◌, ◌||◌, List, [], ◌∷◌, ◌++◌, ℕ, eqb, leb, length, Result, Ok, Err}
 use Rattle.words.specs.Endian.{le_bytes}
 use Rattle.hexadecimal.specs.Rfc4648.{all_digits, decode}
 use Rattle.refusals.specs.declared.Refusal.{Refusal}
 use Rattle.refusals.specs.declared.Refusal.TheVariants.{TooLong, WrongCredential}
-use Rattle.refusals.specs.declared.Outcome.{Outcome}
-use Rattle.refusals.specs.declared.Outcome.TheVariants.{Accepted, Refused}
 use Rattle.refusals.specs.Limits.{password_limit, key_file_limit}
 use Rattle.fips180.specs.Fips180.{sha256, sha512, hash}
 
@@ -31,16 +29,15 @@ abbrev pub credential : Bool → List ℕ → Credential
 credential true s = given s
 credential false s = absent
 
--- the composite key's answer: zeros where it is refused
-pub record Composed : Type 0 where
-  pub outcome : Outcome
-  pub key : List ℕ
+-- the composite key, or why it is refused
+abbrev pub Composed : Type 0
+Composed = Result (List ℕ) Refusal
 
 abbrev pub accepted : List ℕ → Composed
-accepted k = record { outcome = Accepted; key = k }
+accepted k = Ok k
 
 abbrev pub refused : Refusal → Composed
-refused r = record { outcome = Refused r; key = replicate 32 0 }
+refused r = Err r
 
 abbrev pub password_part : List ℕ → List ℕ
 password_part s = hash sha256 s

@@ -1,6 +1,8 @@
--- How the struct `Composed` stands for the definition's answer. Assumes nothing.
-use Rattle.keys.specs.Kdbx4Keys as kdbx4
-use Rattle.keys.specs.declared.Composed.{Composed}
+-- How an optional slice stands for a credential of the definitions. Assumes nothing.
+use Rattle.std.specs.Prelude.{List, ℕ, Option, Some, None}
+use denote.Ref.{Bor}
+use Rattle.keys.specs.Kdbx4Keys.{Credential, given, absent}
 
-abbrev pub composed : kdbx4.Composed → Composed
-composed c = record { outcome = c.outcome; key = c.key }
+abbrev pub credential : Option (Bor (List ℕ)) → Credential
+credential (Some s) = given s.now
+credential None = absent

@@ -1,45 +1,21 @@
 // The keys of a vault (document 01, "Keys"; the key file: document 02, Item 2): the composite key from what the user
 // has, and the cipher key and tag keys from the transformed key T and the header's master seed.
 //
-// The contracts cite specs/Kdbx4Keys. A credential is a slice with a flag that says whether it was given: an empty
+// The contracts cite specs/Kdbx4Keys. A credential is a slice where it is given, and `None` where it is absent: an empty
 // password is a part of the key, an absent one is not. Refusals, in order: 1 for a password or key file over its limit;
 // 18 for no credential, a pre-hash that is not 32 bytes, or one that is given with another credential.
 #![tactic(auto)]
 
 ghost use Rattle.std.specs.Prelude.{◌≡◌, false, not, ◌++◌, ◌≤◌, length};
-ghost use Rattle.refusals.specs.Limits.{message_limit, password_limit, key_file_limit};
+ghost use Rattle.refusals.specs.Limits.{message_limit};
 ghost use Rattle.fips180.specs.Fips180 as fips180;
 ghost use Rattle.keys.specs.Kdbx4Keys as kdbx4;
 ghost use Rattle.keys.specs.State as state;
 
-use refusals::{Outcome, Refusal};
+use refusals::Refusal;
+use refusals::limits::{KEY_FILE_LIMIT, PASSWORD_LIMIT};
 use sha256::Sha256;
 use sha512::Sha512;
-
-// The composite key: zeros where it is refused.
-#[derive(Clone, Copy)]
-pub struct Composed {
-    pub outcome: Outcome,
-    pub key: [u8; 32],
-}
-
-fn accept(key: [u8; 32]) -> Composed
-    ensures { result ≡ state.composed (kdbx4.accepted key) }
-{
-    Composed {
-        outcome: Outcome::Accepted,
-        key,
-    }
-}
-
-fn refuse(why: Refusal) -> Composed
-    ensures { result ≡ state.composed (kdbx4.refused why) }
-{
-    Composed {
-        outcome: Outcome::Refused(why),
-        key: [0u8; 32],
-    }
-}
 
 // SHA-256 of a message within the limit.
 fn hash_of(s: &[u8]) -> [u8; 32]
@@ -84,85 +60,62 @@ fn key_file_part(s: &[u8]) -> [u8; 32]
     hash_of(s)
 }
 
+// Whether a credential, where it is given, has at most so many bytes.
+pub fn is_within(credential: Option<&[u8]>, limit: usize) -> bool
+    ensures { result ≡ not (kdbx4.over limit (state.credential credential.entry)) }
+{
+    match credential {
+        Some(s) => s.len() <= limit,
+        None => true,
+    }
+}
+
 // The composite key of a pre-hash alone: the pre-hash itself, never hashed again.
-fn from_pre_hash(s: &[u8]) -> Composed
-    ensures { result ≡ state.composed (kdbx4.composite_of kdbx4.absent kdbx4.absent (kdbx4.given s.now)) }
+fn from_pre_hash(s: &[u8]) -> Result<[u8; 32], Refusal>
+    ensures { result ≡ kdbx4.composite_of kdbx4.absent kdbx4.absent (kdbx4.given s.now) }
 {
-    if s.len() == 32 {
-        let mut key = [0u8; 32];
-        slices::copy(&mut key, s);
-        return accept(key);
+    if s.len() != 32 {
+        return Err(Refusal::WrongCredential);
     }
-    refuse(Refusal::WrongCredential)
+    let mut key = [0u8; 32];
+    key.copy_from_slice(s);
+    Ok(key)
 }
 
-// The composite key of a password and a key file, each given or absent.
-fn from_parts(password: &[u8], has_password: bool, key_file: &[u8], has_key_file: bool) -> Composed
-    requires password_value { kdbx4.over message_limit (kdbx4.credential has_password password.now) ≡ false }
-    requires key_file_value { kdbx4.over message_limit (kdbx4.credential has_key_file key_file.now) ≡ false }
-    ensures { result ≡ state.composed (kdbx4.composite_of (kdbx4.credential has_password password.now) (kdbx4.credential has_key_file key_file.now) kdbx4.absent) }
+// The composite key of credentials that are within their limits.
+fn from_parts(
+    password: Option<&[u8]>,
+    key_file: Option<&[u8]>,
+    pre_hash: Option<&[u8]>,
+) -> Result<[u8; 32], Refusal>
+    requires password_value { kdbx4.over message_limit (state.credential password) ≡ false }
+    requires key_file_value { kdbx4.over message_limit (state.credential key_file) ≡ false }
+    ensures { result ≡ kdbx4.composite_of (state.credential password.entry) (state.credential key_file.entry) (state.credential pre_hash.entry) }
 {
-    if has_password {
-        let p = hash_of(password);
-        if has_key_file {
-            return accept(hash_two(p, key_file_part(key_file)));
-        }
-        return accept(hash_of(&p));
+    match (password, key_file, pre_hash) {
+        (Some(p), Some(f), None) => Ok(hash_two(hash_of(p), key_file_part(f))),
+        (Some(p), None, None) => Ok(hash_of(&hash_of(p))),
+        (None, Some(f), None) => Ok(hash_of(&key_file_part(f))),
+        (None, None, Some(s)) => from_pre_hash(s),
+        _ => Err(Refusal::WrongCredential),
     }
-    if has_key_file {
-        let f = key_file_part(key_file);
-        return accept(hash_of(&f));
-    }
-    refuse(Refusal::WrongCredential)
-}
-
-// Whether a password, where it is given, is within its limit.
-fn password_within(s: &[u8], given: bool) -> bool
-    ensures { result ≡ not (kdbx4.over password_limit (kdbx4.credential given s.now)) }
-{
-    if given {
-        return refusals::limits::password_fits(s.len());
-    }
-    true
-}
-
-// Whether a key file, where it is given, is within its limit.
-fn key_file_within(s: &[u8], given: bool) -> bool
-    ensures { result ≡ not (kdbx4.over key_file_limit (kdbx4.credential given s.now)) }
-{
-    if given {
-        return refusals::limits::key_file_fits(s.len());
-    }
-    true
 }
 
 // The composite key of what is given.
 pub fn composite(
-    password: &[u8],
-    has_password: bool,
-    key_file: &[u8],
-    has_key_file: bool,
-    pre_hash: &[u8],
-    has_pre_hash: bool,
-) -> Composed
-    ensures { result ≡ state.composed (kdbx4.composite (kdbx4.credential has_password password.now) (kdbx4.credential has_key_file key_file.now) (kdbx4.credential has_pre_hash pre_hash.now)) }
+    password: Option<&[u8]>,
+    key_file: Option<&[u8]>,
+    pre_hash: Option<&[u8]>,
+) -> Result<[u8; 32], Refusal>
+    ensures { result ≡ kdbx4.composite (state.credential password.entry) (state.credential key_file.entry) (state.credential pre_hash.entry) }
 {
-    if !password_within(password, has_password) {
-        return refuse(Refusal::TooLong);
+    if !is_within(password, PASSWORD_LIMIT) {
+        return Err(Refusal::TooLong);
     }
-    if !key_file_within(key_file, has_key_file) {
-        return refuse(Refusal::TooLong);
+    if !is_within(key_file, KEY_FILE_LIMIT) {
+        return Err(Refusal::TooLong);
     }
-    if has_pre_hash {
-        if has_password {
-            return refuse(Refusal::WrongCredential);
-        }
-        if has_key_file {
-            return refuse(Refusal::WrongCredential);
-        }
-        return from_pre_hash(pre_hash);
-    }
-    from_parts(password, has_password, key_file, has_key_file)
+    from_parts(password, key_file, pre_hash)
 }
 
 // The key of the payload's cipher.

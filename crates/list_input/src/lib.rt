@@ -8,7 +8,6 @@
 
 ghost use Rattle.std.specs.Prelude.{◌≡◌, length};
 
-use refusals::Written;
 use std::io;
 
 // Lists the header of the file on standard input.
@@ -36,7 +35,7 @@ fn room() -> [u8; 196_608]
 // Writes the text of a file to standard output.
 fn show(rt: &impl Print, file: &[u8], text: &mut [u8]) -> io::Result<()> {
     match listing::list(file, text) {
-        Written::Wrote(n) => rt.write_all(slices::part(text, 0, n)),
-        Written::Refused(_) => Ok(()),
+        Ok(n) => rt.write_all(slices::part(text, 0, n)),
+        Err(_) => Ok(()),
     }
 }

@@ -16,8 +16,7 @@ use Rattle.slices.specs.Over.{over}
 use Rattle.hexadecimal.specs.Rfc4648.{encode}
 use Rattle.refusals.specs.declared.Refusal.{Refusal}
 use Rattle.refusals.specs.declared.Refusal.TheVariants.{TooLong, NoRoom}
-use Rattle.refusals.specs.declared.Written.{Written}
-use Rattle.refusals.specs.declared.Written.TheVariants.{Wrote, Refused}
+use Rattle.refusals.specs.Numbers.{Written}
 use Rattle.refusals.specs.Numbers.{of_refusal, place_of}
 use Rattle.refusals.specs.Limits.{program_limit}
 use Rattle.decimal.specs.Decimal.{decimal}
@@ -59,7 +58,7 @@ text s = cond (leb (length s) program_limit) (text_of s (header s)) (refusal_lin
 
 -- the answer of writing w into d, and d afterwards: all of w, or nothing
 unfoldable pub answer : List ℕ → List ℕ → Written
-answer w d = cond (leb (length w) (length d)) (Wrote (length w)) (Refused NoRoom)
+answer w d = cond (leb (length w) (length d)) (Ok (length w)) (Err NoRoom)
 
 unfoldable pub after : List ℕ → List ℕ → List ℕ
 after w d = cond (leb (length w) (length d)) (over w d) d

@@ -16,7 +16,7 @@ ghost use Rattle.outer_header.specs.Frames as frames;
 ghost use Rattle.listing.specs.Listing as listing;
 
 use outer_header::Header;
-use refusals::{Refusal, Written};
+use refusals::Refusal;
 
 // Writes a frame's line over the front of `out`.
 fn put_line(out: &mut [u8], frame: &[u8])
@@ -85,7 +85,7 @@ fn put_lines(s: &[u8], out: &mut [u8])
 }
 
 // Writes the text of an accepted header.
-fn list_frames(s: &[u8], h: Header, out: &mut [u8]) -> Written
+fn list_frames(s: &[u8], h: Header, out: &mut [u8]) -> Result<usize, Refusal>
     requires { kdbx4.header s.now ≡ Ok h }
     ensures value { result ≡ listing.answer (listing.frame_lines s.now) out.old }
     ensures out_after { out.new ≡ listing.after (listing.frame_lines s.now) out.old }
@@ -93,24 +93,24 @@ fn list_frames(s: &[u8], h: Header, out: &mut [u8]) -> Written
     let n = 2 * h.length + count_frames(s);
     if n <= out.len() {
         put_lines(s, out);
-        return Written::Wrote(n);
+        return Ok(n);
     }
-    Written::Refused(Refusal::NoRoom)
+    Err(Refusal::NoRoom)
 }
 
 // Writes the line of a number alone.
-fn list_number(n: u8, out: &mut [u8]) -> Written
+fn list_number(n: u8, out: &mut [u8]) -> Result<usize, Refusal>
     ensures value { result ≡ listing.answer (listing.number_line n) out.old }
     ensures out_after { out.new ≡ listing.after (listing.number_line n) out.old }
 {
     if out.len() < 4 {
-        return Written::Refused(Refusal::NoRoom);
+        return Err(Refusal::NoRoom);
     }
     out[0] = b'R';
     out[1] = b'0' + n / 10;
     out[2] = b'0' + n % 10;
     out[3] = b'\n';
-    Written::Wrote(4)
+    Ok(4)
 }
 
 // Writes a number, a space and the digits of a place over the front of `out`.
@@ -128,7 +128,7 @@ fn put_place(n: u8, digits: &[u8], out: &mut [u8])
 }
 
 // Writes the line of a number and a place.
-fn list_place(n: u8, place: usize, out: &mut [u8]) -> Written
+fn list_place(n: u8, place: usize, out: &mut [u8]) -> Result<usize, Refusal>
     ensures value { result ≡ listing.answer (listing.placed_line n (decimals.decimal place)) out.old }
     ensures out_after { out.new ≡ listing.after (listing.placed_line n (decimals.decimal place)) out.old }
 {
@@ -137,14 +137,14 @@ fn list_place(n: u8, place: usize, out: &mut [u8]) -> Written
     let text = d.text;
     let k = 25 - start;
     if out.len() < k {
-        return Written::Refused(Refusal::NoRoom);
+        return Err(Refusal::NoRoom);
     }
     put_place(n, slices::part(&text, start, 20), out);
-    Written::Wrote(k)
+    Ok(k)
 }
 
 // Writes the text of a refusal.
-fn list_refusal(why: Refusal, out: &mut [u8]) -> Written
+fn list_refusal(why: Refusal, out: &mut [u8]) -> Result<usize, Refusal>
     ensures value { result ≡ listing.answer (listing.refusal_line why) out.old }
     ensures out_after { out.new ≡ listing.after (listing.refusal_line why) out.old }
 {
@@ -156,7 +156,7 @@ fn list_refusal(why: Refusal, out: &mut [u8]) -> Written
 }
 
 // Writes the text of an input over the front of `out`, and answers how long it is.
-pub fn list(s: &[u8], out: &mut [u8]) -> Written
+pub fn list(s: &[u8], out: &mut [u8]) -> Result<usize, Refusal>
     ensures value { result ≡ listing.answer (listing.text s.now) out.old }
     ensures out_after { out.new ≡ listing.after (listing.text s.now) out.old }
 {

@@ -18,7 +18,6 @@ ghost use Rattle.std.specs.Prelude.{◌≤◌};
 use std::env::{Env, FillError};
 use std::io;
 use std::io::IsTerminal;
-use unlocking::input::Input;
 use unlocking::{Unlocked, input, stack};
 
 // Words of memory that the usual stack has room for: 4 MiB.
@@ -53,15 +52,18 @@ fn is_given(rt: &HostRuntime, i: usize) -> bool {
     !matches!(rt.arg(i, &mut []), Err(FillError::NotPresent))
 }
 
-// Reads the file that an argument names into `buf`; says why not where it cannot be opened.
-fn read_named(rt: &HostRuntime, i: usize, buf: &mut [u8]) -> io::Result<Input> {
+// Reads the file that an argument names into `buf`, and answers how many bytes those are; says why not, and answers
+// none, where it cannot be opened.
+fn read_named(rt: &HostRuntime, i: usize, buf: &mut [u8]) -> io::Result<Option<usize>> {
     let mut path = console::buffer();
     let n = rt.arg(i, &mut path).unwrap_or(0);
-    let read = input::read_file(rt, &path[..n], buf);
-    if let Input::NotOpened(why) = read {
-        fail(rt, &path[..n], why)?;
+    match input::read_file(rt, &path[..n], buf) {
+        Ok(read) => Ok(Some(read)),
+        Err(why) => {
+            fail(rt, &path[..n], why)?;
+            Ok(None)
+        }
     }
-    Ok(read)
 }
 
 // The text of an error of the system, without its number at the end.
@@ -88,8 +90,8 @@ fn fail(rt: &HostRuntime, what: &[u8], why: io::Error) -> io::Result<()> {
 fn open_vault(rt: &HostRuntime, has_key_file: bool) -> io::Result<()> {
     let mut space = input::room();
     match read_named(rt, 1, &mut space)? {
-        Input::NotOpened(_) => Ok(()),
-        Input::Bytes(n) => open_file(rt, slices::part(&space, 0, n), has_key_file),
+        Some(n) => open_file(rt, slices::part(&space, 0, n), has_key_file),
+        None => Ok(()),
     }
 }
 
@@ -100,8 +102,8 @@ fn open_file(rt: &HostRuntime, file: &[u8], has_key_file: bool) -> io::Result<()
     }
     let mut space = input::room();
     match read_named(rt, 2, &mut space)? {
-        Input::NotOpened(_) => Ok(()),
-        Input::Bytes(n) => open_typed(rt, file, Some(slices::part(&space, 0, n))),
+        Some(n) => open_typed(rt, file, Some(slices::part(&space, 0, n))),
+        None => Ok(()),
     }
 }
 
@@ -109,8 +111,8 @@ fn open_file(rt: &HostRuntime, file: &[u8], has_key_file: bool) -> io::Result<()
 fn open_typed<'a>(rt: &HostRuntime, file: &'a [u8], key_file: Option<&'a [u8]>) -> io::Result<()> {
     ask(rt);
     let mut space = input::room();
-    let line = input::read_line(&mut rt.stdin(), &mut space);
-    let password = line.given.then_some(slices::part(&space, 0, line.length));
+    let typed = input::read_line(&mut rt.stdin(), &mut space);
+    let password = typed.map(|n| slices::part(&space, 0, n));
     let locked = Locked {
         file,
         password,
@@ -177,10 +179,8 @@ fn open_with(rt: &HostRuntime, locked: Locked, memory: &mut [u64]) -> io::Result
     match unlocking::unlock(
         rt,
         locked.file,
-        locked.password.unwrap_or(&[]),
-        locked.password.is_some(),
-        locked.key_file.unwrap_or(&[]),
-        locked.key_file.is_some(),
+        locked.password,
+        locked.key_file,
         &mut out,
         memory,
     ) {

@@ -19,7 +19,7 @@ ghost use Rattle.open_whole.specs.Ciphertext.{text, payload_in};
 use chacha20::ChaCha20;
 use ciphers::Cipher;
 use opening::Keys;
-use refusals::{Refusal, Written};
+use refusals::Refusal;
 
 mod survey;
 mod text;
@@ -74,27 +74,27 @@ fn write_aes(k: Keys, f: &[u8], p: usize, n: usize, last: [u8; 16], m: usize, ou
 }
 
 // The payload of `c` bytes of AES ciphertext.
-fn open_aes(k: Keys, f: &[u8], p: usize, c: usize, out: &mut [u8]) -> Written
+fn open_aes(k: Keys, f: &[u8], p: usize, c: usize, out: &mut [u8]) -> Result<usize, Refusal>
     requires { c ≡ length (text f.now p) }
     ensures value { result ≡ whole.written_of (payload_in ciphers.Aes256 k f.now p (length out.old)) }
     ensures out_after { out.new ≡ over (whole.shown_of (payload_in ciphers.Aes256 k f.now p (length out.old))) out.old }
 {
     if c == 0 {
-        return Written::Refused(Refusal::WrongPadding);
+        return Err(Refusal::WrongPadding);
     }
     if c % 16 != 0 {
-        return Written::Refused(Refusal::WrongPadding);
+        return Err(Refusal::WrongPadding);
     }
     let last = last_piece(k, f, p, c);
     match pkcs7::check(last) {
-        None => return Written::Refused(Refusal::WrongPadding),
+        None => return Err(Refusal::WrongPadding),
         Some(padding) => {
             let m = 16 - (padding as usize);
             if out.len() < c - 16 + m {
-                return Written::Refused(Refusal::NoRoom);
+                return Err(Refusal::NoRoom);
             }
             write_aes(k, f, p, c - 16, last, m, out);
-            return Written::Wrote(c - 16 + m);
+            return Ok(c - 16 + m);
         }
     }
 }
@@ -111,31 +111,31 @@ fn fill_chacha20(k: Keys, f: &[u8], p: usize, out: &mut [u8])
 }
 
 // The payload of `c` bytes of ChaCha20 ciphertext.
-fn open_chacha20(k: Keys, f: &[u8], p: usize, c: usize, out: &mut [u8]) -> Written
+fn open_chacha20(k: Keys, f: &[u8], p: usize, c: usize, out: &mut [u8]) -> Result<usize, Refusal>
     requires { c ≡ length (text f.now p) }
     ensures value { result ≡ whole.written_of (payload_in ciphers.ChaCha20 k f.now p (length out.old)) }
     ensures out_after { out.new ≡ over (whole.shown_of (payload_in ciphers.ChaCha20 k f.now p (length out.old))) out.old }
 {
     if out.len() < c {
-        return Written::Refused(Refusal::NoRoom);
+        return Err(Refusal::NoRoom);
     }
     fill_chacha20(k, f, p, &mut out[..c]);
-    Written::Wrote(c)
+    Ok(c)
 }
 
 // Opens the blocks of a file, the first of which stands at `p`: the payload goes to the front of `out`.
-pub fn open_blocks(k: Keys, f: &[u8], p: usize, out: &mut [u8]) -> Written
+pub fn open_blocks(k: Keys, f: &[u8], p: usize, out: &mut [u8]) -> Result<usize, Refusal>
     ensures value { result ≡ whole.written_of (whole.whole_in k f.now p (length out.old)) }
     ensures out_after { out.new ≡ over (whole.shown_of (whole.whole_in k f.now p (length out.old))) out.old }
 {
     let base = k.base;
     match survey::survey(f, base, p) {
-        Err(r) => return Written::Refused(r),
-        Ok(c) => {
+        Err(r) => return Err(r),
+        Ok(count) => {
             let cipher = k.cipher;
             match cipher {
-                Cipher::Aes256 => return open_aes(k, f, p, c, out),
-                Cipher::ChaCha20 => return open_chacha20(k, f, p, c, out),
+                Cipher::Aes256 => return open_aes(k, f, p, count, out),
+                Cipher::ChaCha20 => return open_chacha20(k, f, p, count, out),
             }
         }
     }

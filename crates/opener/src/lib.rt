@@ -25,7 +25,7 @@ use aes::RoundKeys;
 use block_stream::Block;
 use ciphers::Cipher;
 use opening::{Keys, Opener, Phase, Stepped};
-use refusals::{Refusal, Written};
+use refusals::Refusal;
 
 mod held;
 mod keystream;
@@ -56,7 +56,7 @@ fn refuse(next: Opener, why: Refusal) -> Stepped
     ensures { result ≡ stepped (runs.refuse why next) }
 {
     Stepped {
-        answer: Written::Refused(why),
+        answer: Err(why),
         next,
     }
 }
@@ -184,7 +184,7 @@ fn step_data(o: Opener, f: &[u8], n: usize, out: &mut [u8]) -> Stepped
     let start = o.at + 36;
     let next = take_block(o, &f[start..start + n], out);
     Stepped {
-        answer: Written::Wrote(need),
+        answer: Ok(need),
         next,
     }
 }
@@ -224,7 +224,7 @@ fn close_aes(o: Opener, out: &mut [u8]) -> Stepped
             slices::copy(out, &piece[..n]);
             let ended = blank(Phase::Ended);
             return Stepped {
-                answer: Written::Wrote(n),
+                answer: Ok(n),
                 next: ended,
             };
         }
@@ -245,7 +245,7 @@ fn step_closing(o: Opener, f: &[u8], out: &mut [u8]) -> Stepped
         Cipher::Aes256 => return close_aes(o, out),
         Cipher::ChaCha20 => {
             return Stepped {
-                answer: Written::Wrote(0),
+                answer: Ok(0),
                 next: blank(Phase::Ended),
             };
         }

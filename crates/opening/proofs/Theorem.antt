@@ -10,6 +10,7 @@
 -- A first block stands behind a header, so that its place is not 0; an empty file would be opened by no step at all.
 -- Not here: the start (crate vault).
 -- Assumes nothing.
+use Rattle.std.specs.Prelude.{Err}
 use mathlib.Core.Path.{◌≡◌, refl, sym, ap, ◌∙◌}
 use mathlib.Core.Logic.{◌≢◌}
 use mathlib.Core.List.{List, []}
@@ -19,7 +20,6 @@ use borrow.Author.Tests.{le-ltb}
 use lib.ListN.{length}
 use Rattle.refusals.specs.declared.Refusal.{Refusal}
 use Rattle.refusals.specs.declared.Refusal.TheVariants.{NoRoom}
-use Rattle.refusals.specs.declared.Written.TheVariants as written
 use Rattle.refusals.specs.Limits.{file_limit}
 use Rattle.refusals.specs.Numbers.{count_of}
 use Rattle.opening.specs.declared.Keys.{Keys}
@@ -94,11 +94,11 @@ each_map h (both {a = a} x y) = both (h a x) (each_map h y)
 -- one answer of which the refusal is the whole opener's
 abbrev RefusedAlike : Keys → List ℕ → ℕ → Answer → Type 0
 RefusedAlike k f p a =
-    (r : Refusal) → a.written ≡ written.Refused r → Closing r → (n : ℕ) → whole_in k f p n ≡ refused r
+    (r : Refusal) → a.written ≡ Err r → Closing r → (n : ℕ) → whole_in k f p n ≡ refused r
 
 some_refused : (k : Keys) (f : List ℕ) (p : ℕ) (r : Refusal) → Closing r → {l : List Answer}
     → Each (RefusedAlike k f p) l
-    → Some (λ (a : Answer). a.written ≡ written.Refused r) l → (n : ℕ) → whole_in k f p n ≡ refused r
+    → Some (λ (a : Answer). a.written ≡ Err r) l → (n : ℕ) → whole_in k f p n ≡ refused r
 some_refused k f p r c none i = elim i [ ]
 some_refused k f p r c (both g h) (here e) = g r e c
 some_refused k f p r c (both g h) (there y) = some_refused k f p r c h y
@@ -156,7 +156,7 @@ module _ (k : Keys) (w : length k.nonce ≡ 16) (f : List ℕ) (l : length f ≤
     finished_by rooms Open e o = absurd (o refl)
     finished_by rooms Closed e o =
         let c = run-closed k f (plain_start p) rooms (plain_start_phase p) e in
-        let s : Some (λ (a : Answer). a.written ≡ written.Refused c.refusal) (step_answers k f p rooms) =
+        let s : Some (λ (a : Answer). a.written ≡ Err c.refusal) (step_answers k f p rooms) =
         rw (step_answers_plain rooms) c.given_by in
         by_refusal e c.refusal c.closing s (some_refused k f p c.refusal c.closing (refused_alike rooms) s)
     finished_by rooms Ended e o = by_closing e
@@ -210,7 +210,7 @@ agrees k w f p l o i rooms =
 
 -- m steps, none refused with 17
 pub all_room : (k : Keys) (f : List ℕ) (p : ℕ) (rooms : List ℕ) (m : ℕ) → m ≤ length rooms
-    → Each (λ (a : Answer). a.written ≢ written.Refused NoRoom) (step_answers k f p rooms)
+    → Each (λ (a : Answer). a.written ≢ Err NoRoom) (step_answers k f p rooms)
     → m ≤ with_room (step_answers k f p rooms)
 all_room k f p rooms m l h =
     let a = with_room_all (step_answers k f p rooms) h in

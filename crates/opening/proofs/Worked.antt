@@ -6,6 +6,7 @@
 --   "AES blocks of 5 and 27: 0 then 16"          steps_5_27: of the code's steps over any such file
 --   both in one run                              closing_padding_1, closing_padding_16: the same file's closing block
 -- Assumes nothing.
+use Rattle.std.specs.Prelude.{Ok}
 use mathlib.Core.Path.{◌≡◌, refl, ap, ◌∙◌}
 use mathlib.Core.Logic.{◌≢◌}
 use mathlib.Core.List.{List, [], ◌∷◌, ◌++◌}
@@ -16,7 +17,6 @@ use lib.ListN.{length, take, drop, length-append, length-drop}
 use lib.Seq.{length-take-le}
 use Rattle.words.specs.Endian.{Bytes}
 use Rattle.words.specs.Block.{IsBlock}
-use Rattle.refusals.specs.declared.Written.TheVariants.{Wrote}
 use Rattle.pkcs7.specs.Pkcs7.{padding, strip}
 use Rattle.pkcs7.proofs.Laws.Padding.{padding-le}
 use Rattle.ciphers.specs.declared.Cipher.{Cipher}
@@ -104,7 +104,7 @@ closing_16 k h m b e = rw e at (closing_count k h m b)
 
 -- a plain step with room at a data block, and at the closing block
 abbrev wrote : {A : Type 0} → List ℕ → A → Reply A
-wrote b next = record { answer = record { written = Wrote (length b); bytes = b }; next = next }
+wrote b next = record { answer = record { written = Ok (length b); bytes = b }; next = next }
 
 plain_step_data : (k : Keys) (f : List ℕ) (i p : ℕ) (t : List ℕ) (n s : ℕ) → judge k.base f i p ≡ block.Data s
     → length (due k t (data_at f p s)) ≤ n
@@ -153,8 +153,8 @@ module _ (k : Keys) (f : List ℕ) (p : ℕ) (h : Blocks5And27 k f p) where
   -- two steps, the first with any room at all
   plain_5_27 : (n m : ℕ) (ns : List ℕ) → 16 ≤ m
       → writtens (answers (plain_step k f) (plain_start p) (n ∷ m ∷ ns))
-      ≡ Wrote 0
-      ∷ Wrote 16
+      ≡ Ok 0
+      ∷ Ok 16
       ∷ writtens (answers (plain_step k f) (plain Open 2 (p + 36 + 5 + 36 + 27) (ciphertext f p)) ns)
   unfolding answers plain_start
   plain_5_27 n m ns l =
@@ -167,7 +167,7 @@ module _ (k : Keys) (f : List ℕ) (p : ℕ) (h : Blocks5And27 k f p) where
         b,
       )
 
-  pub steps_5_27 : (n m : ℕ) → 16 ≤ m → writtens (step_answers k f p (n ∷ m ∷ [])) ≡ Wrote 0 ∷ Wrote 16 ∷ []
+  pub steps_5_27 : (n m : ℕ) → 16 ≤ m → writtens (step_answers k f p (n ∷ m ∷ [])) ≡ Ok 0 ∷ Ok 16 ∷ []
   unfolding answers
   steps_5_27 n m l =
       ap writtens (agrees k h.nonce_is f p h.within h.behind_header inside (n ∷ m ∷ [])).answers_are
@@ -204,7 +204,7 @@ module _ (k : Keys) (f : List ℕ) (p : ℕ) (h : Blocks5And27 k f p) where
 
   pub closing_padding : ClosingBehind k f p → (q : ℕ) → padding (decryption_by Aes256 k (ciphertext f p)) ≡ q → 1 ≤ q
       → (n m r : ℕ) → 16 ≤ m → 16 - q ≤ r
-      → writtens (step_answers k f p (n ∷ m ∷ r ∷ [])) ≡ Wrote 0 ∷ Wrote 16 ∷ Wrote (16 - q) ∷ []
+      → writtens (step_answers k f p (n ∷ m ∷ r ∷ [])) ≡ Ok 0 ∷ Ok 16 ∷ Ok (16 - q) ∷ []
   unfolding answers close_of
   closing_padding c q e l n m r lm lr =
       let at : ℕ = p + 36 + 5 + 36 + 27 in
@@ -220,9 +220,9 @@ module _ (k : Keys) (f : List ℕ) (p : ℕ) (h : Blocks5And27 k f p) where
 
   pub closing_padding_1 : ClosingBehind k f p → padding (decryption_by Aes256 k (ciphertext f p)) ≡ 1
       → (n m r : ℕ) → 16 ≤ m → 15 ≤ r
-      → writtens (step_answers k f p (n ∷ m ∷ r ∷ [])) ≡ Wrote 0 ∷ Wrote 16 ∷ Wrote 15 ∷ []
+      → writtens (step_answers k f p (n ∷ m ∷ r ∷ [])) ≡ Ok 0 ∷ Ok 16 ∷ Ok 15 ∷ []
   closing_padding_1 c e n m r lm lr = closing_padding c 1 e (omega arith) n m r lm lr
 
   pub closing_padding_16 : ClosingBehind k f p → padding (decryption_by Aes256 k (ciphertext f p)) ≡ 16
-      → (n m r : ℕ) → 16 ≤ m → writtens (step_answers k f p (n ∷ m ∷ r ∷ [])) ≡ Wrote 0 ∷ Wrote 16 ∷ Wrote 0 ∷ []
+      → (n m r : ℕ) → 16 ≤ m → writtens (step_answers k f p (n ∷ m ∷ r ∷ [])) ≡ Ok 0 ∷ Ok 16 ∷ Ok 0 ∷ []
   closing_padding_16 c e n m r lm = closing_padding c 16 e (omega arith) n m r lm (omega arith)

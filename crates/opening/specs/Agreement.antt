@@ -11,11 +11,10 @@
 -- stands behind a header: `ends` holds where p is not 0, since an empty file would have to end with no step.
 -- Not here: the start, and the claim with it (crate vault, specs Agreement).
 -- Assumes nothing.
-use Rattle.std.specs.Prelude.{◌≡◌, true, ◌≢◌, List, [], ◌∷◌, ◌++◌, ℕ, zero, suc, ◌+◌, ◌≤◌, ◌<◌, length}
+use Rattle.std.specs.Prelude.{◌≡◌, true, ◌≢◌, List, [], ◌∷◌, ◌++◌, ℕ, zero, suc, ◌+◌, ◌≤◌, ◌<◌, length, Err}
 use Rattle.words.specs.Endian.{le}
 use Rattle.refusals.specs.declared.Refusal.{Refusal}
 use Rattle.refusals.specs.declared.Refusal.TheVariants.{NoRoom, OutOfSequence}
-use Rattle.refusals.specs.declared.Written.TheVariants.{Refused}
 use Rattle.refusals.specs.Limits.{file_limit}
 use Rattle.refusals.specs.Numbers.{count_of}
 use Rattle.block_stream.specs.Blocks.{holds, data_at}
@@ -86,7 +85,7 @@ pub record Taken (k : Keys) (f : List ℕ) (p : ℕ) (q : Plain) : Type 0 where
 pub data Finished (k : Keys) (f : List ℕ) (p : ℕ) (rooms : List ℕ) : Type 0 where
   by_closing : (plain_after k f p rooms).phase ≡ Ended → Finished k f p rooms
   by_refusal : (plain_after k f p rooms).phase ≡ Closed → (r : Refusal) → Closing r
-      → Some (λ (a : Answer). a.written ≡ Refused r) (step_answers k f p rooms)
+      → Some (λ (a : Answer). a.written ≡ Err r) (step_answers k f p rooms)
       → ((n : ℕ) → whole_in k f p n ≡ refused r)
       → Finished k f p rooms
 
@@ -108,12 +107,12 @@ pub record RunAgrees (k : Keys) (f : List ℕ) (p : ℕ) (rooms : List ℕ) : Ty
   pub whole_gives : (plain_after k f p rooms).phase ≡ Ended → (n : ℕ) → length (handed_over k f p rooms) ≤ n
       → whole_in k f p n ≡ opened (handed_over k f p rooms)
   -- a refusal that closed the opening is the whole opener's, whatever is lent to that
-  pub refusals : Each (λ (a : Answer). (r : Refusal) → a.written ≡ Refused r → Closing r
+  pub refusals : Each (λ (a : Answer). (r : Refusal) → a.written ≡ Err r → Closing r
       → (n : ℕ) → whole_in k f p n ≡ refused r) (step_answers k f p rooms)
   -- as many steps with room as the file has bytes take the closing block or end in such a refusal
   pub ends : length f ≤ with_room (step_answers k f p rooms) → Finished k f p rooms
   pub room : Roomy k f (plain_start p) rooms
-      → Each (λ (a : Answer). a.written ≢ Refused NoRoom) (step_answers k f p rooms)
+      → Each (λ (a : Answer). a.written ≢ Err NoRoom) (step_answers k f p rooms)
   -- "A step over s bytes hands over at most s + 15": the next step, whatever is lent to it, over the block at its place
   pub step_le : (n : ℕ) → count_of (step_of f (state_after k f p rooms) n).answer.written
       ≤ size_at f (plain_after k f p rooms).at + 15

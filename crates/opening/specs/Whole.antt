@@ -4,10 +4,9 @@
 -- it.
 -- Not here: the header's checks (crate vault).
 -- Assumes nothing.
-use Rattle.std.specs.Prelude.{cond, List, [], ◌++◌, ℕ, zero, suc, ◌+◌, ltb, length}
+use Rattle.std.specs.Prelude.{cond, List, [], ◌++◌, ℕ, zero, suc, ◌+◌, ltb, length, Ok, Err}
 use Rattle.refusals.specs.declared.Refusal.TheVariants.{CutShort, TrailingBytes, NoRoom}
-use Rattle.refusals.specs.declared.Written.{Written}
-use Rattle.refusals.specs.declared.Written.TheVariants as written
+use Rattle.refusals.specs.Numbers.{Written}
 use Rattle.block_stream.specs.Blocks.{judge, data_at}
 use Rattle.block_stream.specs.declared.Block.{Block}
 use Rattle.block_stream.specs.declared.Block.TheVariants.{Data, Closing, Refused}
@@ -45,8 +44,8 @@ whole_in k f p n = roomed n (whole k f p)
 
 -- an opening as an answer, and the bytes that it hands over: none where it is refused
 unfoldable pub written_of : Opened → Written
-written_of (refused r) = written.Refused r
-written_of (opened b) = written.Wrote (length b)
+written_of (refused r) = Err r
+written_of (opened b) = Ok (length b)
 
 unfoldable pub shown_of : Opened → List ℕ
 shown_of (refused r) = []

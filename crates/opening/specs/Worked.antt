@@ -7,7 +7,7 @@
 -- k are the keys, f is the file, p the place of its first block.
 -- Assumes nothing.
 use Rattle.std.specs.Prelude.{◌≡◌, List, [], ◌∷◌, ◌++◌, ℕ, ◌+◌, ◌≤◌, ◌<◌, length}
-use Rattle.refusals.specs.declared.Written.{Written}
+use Rattle.refusals.specs.Numbers.{Written}
 use Rattle.refusals.specs.Limits.{file_limit}
 use Rattle.ciphers.specs.declared.Cipher.TheVariants.{Aes256}
 use Rattle.block_stream.specs.Blocks.{judge, data_at}

@@ -7,7 +7,7 @@
 
 use aes::RoundKeys;
 use ciphers::Cipher;
-use refusals::{Outcome, Written};
+use refusals::Refusal;
 
 // What T and a header give: AES-256 has round keys, ChaCha20 its key, and what the other one would need is zero.
 // ChaCha20's nonce is the first twelve bytes.
@@ -44,13 +44,13 @@ pub struct Opener {
 // A start's answer, and the state: closed where it is refused.
 #[derive(Clone, Copy)]
 pub struct Started {
-    pub outcome: Outcome,
+    pub outcome: Result<(), Refusal>,
     pub next: Opener,
 }
 
 // A step's answer, and the next state.
 #[derive(Clone, Copy)]
 pub struct Stepped {
-    pub answer: Written,
+    pub answer: Result<usize, Refusal>,
     pub next: Opener,
 }

@@ -31,8 +31,7 @@ use Rattle.refusals.specs.declared.Refusal.TheVariants.{
   Unlisted,
   BrokenDictionary,
 }
-use Rattle.refusals.specs.declared.Outcome.{Outcome}
-use Rattle.refusals.specs.declared.Outcome.TheVariants as outcome
+use Rattle.refusals.specs.Numbers.{Outcome}
 use Rattle.refusals.specs.Limits.{file_limit}
 use Rattle.fields.specs.Fields.{bytes_at, end_of, begin, field_at, nowhere, given}
 use Rattle.fields.specs.declared.Place.{Place}
@@ -115,18 +114,18 @@ complete f = given f.cipher && (given f.compression && (given f.seed && (given f
 
 -- a custom dictionary is judged where it is given; its places are the file's
 unfoldable pub custom_in : Place → Result Unit Fault → Outcome
-custom_in p (Ok tt) = outcome.Accepted
-custom_in p (Err (fault.Broken at)) = outcome.Refused (BrokenDictionary (p.start + at))
-custom_in p (Err (fault.Repeated at)) = outcome.Refused (Repeated (p.start + at))
+custom_in p (Ok tt) = Ok tt
+custom_in p (Err (fault.Broken at)) = Err (BrokenDictionary (p.start + at))
+custom_in p (Err (fault.Repeated at)) = Err (Repeated (p.start + at))
 
 unfoldable pub custom_of : List ℕ → Place → Outcome
-custom_of s p = cond (given p) (custom_in p (verdict (bytes_at s p))) outcome.Accepted
+custom_of s p = cond (given p) (custom_in p (verdict (bytes_at s p))) (Ok tt)
 
 -- "KDF dictionary, custom dictionary": the header's figures, at last
 unfoldable pub figures_in : Fields → ℕ → ℕ → Cipher → Result Kdf Refusal → Outcome → Result Header Refusal
 figures_in f minor end c (Err r) custom = Err r
-figures_in f minor end c (Ok k) (outcome.Refused x) = Err x
-figures_in f minor end c (Ok k) outcome.Accepted =
+figures_in f minor end c (Ok k) (Err x) = Err x
+figures_in f minor end c (Ok k) (Ok tt) =
     Ok (record {
       minor = minor;
       cipher = c;

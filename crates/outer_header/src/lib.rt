@@ -15,7 +15,7 @@ use ciphers::Cipher;
 use dictionary::Fault;
 use fields::Place;
 use kdf_dictionary::Kdf;
-use refusals::{Outcome, Refusal};
+use refusals::Refusal;
 use walk::Fields;
 
 pub mod walk;
@@ -94,19 +94,17 @@ fn is_complete(f: Fields) -> bool
 }
 
 // Whether a custom dictionary, where it is given, is sound.
-fn custom_of(s: &[u8], p: Place) -> Outcome
+fn custom_of(s: &[u8], p: Place) -> Result<(), Refusal>
     ensures { result ≡ kdbx4.custom_of s.now p }
 {
     if p.start != 0 {
         match dictionary::check(slices::part(s, p.start, p.length)) {
-            Ok(()) => return Outcome::Accepted,
-            Err(Fault::Broken(at)) => return Outcome::Refused(Refusal::BrokenDictionary(
-                p.start + at,
-            )),
-            Err(Fault::Repeated(at)) => return Outcome::Refused(Refusal::Repeated(p.start + at)),
+            Ok(()) => return Ok(()),
+            Err(Fault::Broken(at)) => return Err(Refusal::BrokenDictionary(p.start + at)),
+            Err(Fault::Repeated(at)) => return Err(Refusal::Repeated(p.start + at)),
         }
     }
-    Outcome::Accepted
+    Ok(())
 }
 
 // The header's figures, where both dictionaries are right.
@@ -117,8 +115,8 @@ fn figures(s: &[u8], f: Fields, minor: u8, end: usize, c: Cipher) -> Result<Head
     let custom = f.custom;
     let kdf = kdf_dictionary::read(s, dictionary)?;
     match custom_of(s, custom) {
-        Outcome::Refused(x) => return Err(x),
-        Outcome::Accepted => {
+        Err(x) => return Err(x),
+        Ok(()) => {
             return Ok(Header {
                 minor,
                 cipher: c,

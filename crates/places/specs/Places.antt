@@ -9,7 +9,6 @@
 use Rattle.std.specs.Prelude.{◌≡◌, true, ◌||◌, List, [], ℕ, ◌<◌, eqb, length, Err, Ok}
 use Rattle.refusals.specs.declared.Refusal.{Refusal}
 use Rattle.refusals.specs.declared.Refusal.TheVariants.{TooLong, CutShort, WrongSignature, WrongVersion, WrongSize, Repeated, UnknownField, Absent, Unlisted, BrokenDictionary, TooManyRounds, HeaderHash, HeaderTag, BlockTag, TrailingBytes, WrongPadding, NoRoom, WrongCredential, OutOfSequence, TooFewRounds, FigureOutside}
-use Rattle.refusals.specs.declared.Written.TheVariants as written
 use Rattle.refusals.specs.Numbers.{place_of}
 use Rattle.dictionary.specs.Dictionary.{verdict, find}
 use Rattle.dictionary.specs.declared.Fault.TheVariants as fault
@@ -69,11 +68,11 @@ pub record Places : Type 0 where
   pub whole_zero : (t f : List ℕ) (n : ℕ) (h : Header) (r : Refusal) → header f ≡ Ok h
       → opened_in t f n ≡ refused r
       → place_of r ≡ 0
-  pub step_zero : (f : List ℕ) (o : Opener) (n : ℕ) (r : Refusal) → (step_of f o n).answer.written ≡ written.Refused r
+  pub step_zero : (f : List ℕ) (o : Opener) (n : ℕ) (r : Refusal) → (step_of f o n).answer.written ≡ Err r
       → place_of r ≡ 0
   -- the writers
-  pub writer_zero : (g : Figures) (t b : List ℕ) (n : ℕ) (r : Refusal) → writing g t b n ≡ written.Refused r
+  pub writer_zero : (g : Figures) (t b : List ℕ) (n : ℕ) (r : Refusal) → writing g t b n ≡ Err r
       → place_of r ≡ 0
   pub inner_writer_zero : (algorithm : ℕ) (key run document : List ℕ) (n : ℕ) (r : Refusal)
-      → inner_writer.writing algorithm key run document n ≡ written.Refused r
+      → inner_writer.writing algorithm key run document n ≡ Err r
       → place_of r ≡ 0

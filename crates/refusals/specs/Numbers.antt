@@ -2,19 +2,13 @@
 -- Item 8: the place.
 --
 --   of_refusal, place_of, unplaced  a refusal: its number, its place, and itself without it
---   number_of, place_of_answer      an answer: its number, and the place of its fault
---   of_outcome, place_of_outcome    an outcome
---   of_written, place_of_written    a writing; count_of: how many bytes were written
+--   Outcome, Written                what operations answer: number_of, place_of_answer; count_of: how many bytes were written
 --   Said, success, refused          what an answer says in these terms: a number, a place and values
 -- Not here: what each answer of another crate says (its own Answers).
 -- Assumes nothing.
 use Rattle.std.specs.Prelude.{List, ℕ, replicate, Result, Ok, Err}
 use Rattle.refusals.specs.declared.Refusal.{Refusal}
 use Rattle.refusals.specs.declared.Refusal.TheVariants.{TooLong, CutShort, WrongSignature, WrongVersion, WrongSize, Repeated, UnknownField, Absent, Unlisted, BrokenDictionary, TooManyRounds, HeaderHash, HeaderTag, BlockTag, TrailingBytes, WrongPadding, NoRoom, WrongCredential, OutOfSequence, TooFewRounds, FigureOutside}
-use Rattle.refusals.specs.declared.Outcome.{Outcome}
-use Rattle.refusals.specs.declared.Outcome.TheVariants.{Accepted, Refused}
-use Rattle.refusals.specs.declared.Written.{Written}
-use Rattle.refusals.specs.declared.Written.TheVariants as written
 
 abbrev pub of_refusal : Refusal → ℕ
 of_refusal TooLong = 1
@@ -87,34 +81,27 @@ unplaced OutOfSequence = OutOfSequence
 unplaced (TooFewRounds at) = TooFewRounds 0
 unplaced (FigureOutside at) = FigureOutside 0
 
+-- what an operation that has nothing else to say answers: nothing, or the refusal
+abbrev pub Outcome : Type 0
+Outcome = Result (Unit {0}) Refusal
+
+-- .. and one that writes into a lent slice: how many bytes, or the refusal
+abbrev pub Written : Type 0
+Written = Result ℕ Refusal
+
+-- the number and the place of an answer
 abbrev pub number_of : {T : Type 0} → Result T Refusal → ℕ
-number_of (Ok v) = 0
+number_of (Ok x) = 0
 number_of (Err r) = of_refusal r
 
+-- "A refusal returns its number with zero in every other answer"
 abbrev pub place_of_answer : {T : Type 0} → Result T Refusal → ℕ
-place_of_answer (Ok v) = 0
+place_of_answer (Ok x) = 0
 place_of_answer (Err r) = place_of r
 
-abbrev pub of_outcome : Outcome → ℕ
-of_outcome Accepted = 0
-of_outcome (Refused r) = of_refusal r
-
-abbrev pub place_of_outcome : Outcome → ℕ
-place_of_outcome Accepted = 0
-place_of_outcome (Refused r) = place_of r
-
--- "A refusal returns its number with zero in every other answer"
-abbrev pub of_written : Written → ℕ
-of_written (written.Wrote n) = 0
-of_written (written.Refused r) = of_refusal r
-
-abbrev pub place_of_written : Written → ℕ
-place_of_written (written.Wrote n) = 0
-place_of_written (written.Refused r) = place_of r
-
 abbrev pub count_of : Written → ℕ
-count_of (written.Wrote n) = n
-count_of (written.Refused r) = 0
+count_of (Ok n) = n
+count_of (Err r) = 0
 
 -- "For an answer that is an enum, a definition provides this paper's number and values for each of the enum's cases":
 -- the number, the place of a refusal and the values

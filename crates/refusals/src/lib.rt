@@ -2,8 +2,8 @@
 // terminal"; document 02, Item 3: 20 and the least rounds; Item 6: 22 and the bounds of Argon2's figures; Item 8: the
 // place of a fault).
 //
-// An operation answers an `Outcome`, or an enum of its own with a case for a `Refusal`; what number a refusal has is
-// said here alone. The contracts cite specs/Numbers and specs/Limits.
+// An operation that may refuse answers a `Result<T, Refusal>`; what number a refusal has is said here alone, and what C is
+// told of an answer by `number`, `place` and `count`. The contracts cite specs/Numbers and specs/Limits.
 #![tactic(auto)]
 
 ghost use Rattle.std.specs.Prelude.{◌≡◌};
@@ -13,7 +13,7 @@ pub mod limits;
 
 // Why an operation refuses, in the order of the numbers. 2 to 11, 20 and 22 have the place of the fault, counted from
 // the front of what a reader was handed; operations other than readers put 0 there.
-#[derive(Clone, Copy)]
+#[derive(Clone, Copy, Debug, PartialEq, Eq)]
 pub enum Refusal {
     // 1: an input, file to be written or message is over its limit
     TooLong,
@@ -59,20 +59,6 @@ pub enum Refusal {
     FigureOutside(usize),
 }
 
-// The answer of an operation that has nothing else to say.
-#[derive(Clone, Copy)]
-pub enum Outcome {
-    Accepted,
-    Refused(Refusal),
-}
-
-// The answer of an operation that writes into a lent slice: how many bytes it wrote, or why it wrote none.
-#[derive(Clone, Copy)]
-pub enum Written {
-    Wrote(usize),
-    Refused(Refusal),
-}
-
 impl Refusal {
     // The refusal's number.
     pub fn number(self) -> u8
@@ -108,27 +94,27 @@ impl Refusal {
         ensures { result ≡ numbers.place_of self }
     {
         match self {
-            Refusal::TooLong => 0,
-            Refusal::CutShort(at) => at,
-            Refusal::WrongSignature(at) => at,
-            Refusal::WrongVersion(at) => at,
-            Refusal::WrongSize(at) => at,
-            Refusal::Repeated(at) => at,
-            Refusal::UnknownField(at) => at,
-            Refusal::Absent(at) => at,
-            Refusal::Unlisted(at) => at,
-            Refusal::BrokenDictionary(at) => at,
-            Refusal::TooManyRounds(at) => at,
-            Refusal::HeaderHash => 0,
-            Refusal::HeaderTag => 0,
-            Refusal::BlockTag => 0,
-            Refusal::TrailingBytes => 0,
-            Refusal::WrongPadding => 0,
-            Refusal::NoRoom => 0,
-            Refusal::WrongCredential => 0,
-            Refusal::OutOfSequence => 0,
-            Refusal::TooFewRounds(at) => at,
-            Refusal::FigureOutside(at) => at,
+            Refusal::CutShort(at)
+            | Refusal::WrongSignature(at)
+            | Refusal::WrongVersion(at)
+            | Refusal::WrongSize(at)
+            | Refusal::Repeated(at)
+            | Refusal::UnknownField(at)
+            | Refusal::Absent(at)
+            | Refusal::Unlisted(at)
+            | Refusal::BrokenDictionary(at)
+            | Refusal::TooManyRounds(at)
+            | Refusal::TooFewRounds(at)
+            | Refusal::FigureOutside(at) => at,
+            Refusal::TooLong
+            | Refusal::HeaderHash
+            | Refusal::HeaderTag
+            | Refusal::BlockTag
+            | Refusal::TrailingBytes
+            | Refusal::WrongPadding
+            | Refusal::NoRoom
+            | Refusal::WrongCredential
+            | Refusal::OutOfSequence => 0,
         }
     }
 
@@ -137,7 +123,6 @@ impl Refusal {
         ensures { result ≡ numbers.unplaced self }
     {
         match self {
-            Refusal::TooLong => Refusal::TooLong,
             Refusal::CutShort(_) => Refusal::CutShort(0),
             Refusal::WrongSignature(_) => Refusal::WrongSignature(0),
             Refusal::WrongVersion(_) => Refusal::WrongVersion(0),
@@ -148,16 +133,9 @@ impl Refusal {
             Refusal::Unlisted(_) => Refusal::Unlisted(0),
             Refusal::BrokenDictionary(_) => Refusal::BrokenDictionary(0),
             Refusal::TooManyRounds(_) => Refusal::TooManyRounds(0),
-            Refusal::HeaderHash => Refusal::HeaderHash,
-            Refusal::HeaderTag => Refusal::HeaderTag,
-            Refusal::BlockTag => Refusal::BlockTag,
-            Refusal::TrailingBytes => Refusal::TrailingBytes,
-            Refusal::WrongPadding => Refusal::WrongPadding,
-            Refusal::NoRoom => Refusal::NoRoom,
-            Refusal::WrongCredential => Refusal::WrongCredential,
-            Refusal::OutOfSequence => Refusal::OutOfSequence,
             Refusal::TooFewRounds(_) => Refusal::TooFewRounds(0),
             Refusal::FigureOutside(_) => Refusal::FigureOutside(0),
+            unplaced => unplaced,
         }
     }
 }
@@ -172,7 +150,7 @@ pub fn number<T: Copy>(answer: Result<T, Refusal>) -> u8
     }
 }
 
-// The place of the fault of an answer: 0 on success.
+// The place of a refusal: 0 on success.
 pub fn place<T: Copy>(answer: Result<T, Refusal>) -> usize
     ensures { result ≡ numbers.place_of_answer answer }
 {
@@ -182,56 +160,12 @@ pub fn place<T: Copy>(answer: Result<T, Refusal>) -> usize
     }
 }
 
-impl Outcome {
-    // The outcome's number: 0 is success.
-    pub fn number(self) -> u8
-        ensures { result ≡ numbers.of_outcome self }
-    {
-        match self {
-            Outcome::Accepted => 0,
-            Outcome::Refused(r) => r.number(),
-        }
-    }
-
-    // The place of a refusal: 0 on success.
-    pub fn place(self) -> usize
-        ensures { result ≡ numbers.place_of_outcome self }
-    {
-        match self {
-            Outcome::Accepted => 0,
-            Outcome::Refused(r) => r.place(),
-        }
-    }
-}
-
-impl Written {
-    // The answer's number: 0 is success.
-    pub fn number(self) -> u8
-        ensures { result ≡ numbers.of_written self }
-    {
-        match self {
-            Written::Wrote(_) => 0,
-            Written::Refused(r) => r.number(),
-        }
-    }
-
-    // The place of a refusal: 0 on success.
-    pub fn place(self) -> usize
-        ensures { result ≡ numbers.place_of_written self }
-    {
-        match self {
-            Written::Wrote(_) => 0,
-            Written::Refused(r) => r.place(),
-        }
-    }
-
-    // How many bytes were written, 0 where it was refused.
-    pub fn count(self) -> usize
-        ensures { result ≡ numbers.count_of self }
-    {
-        match self {
-            Written::Wrote(n) => n,
-            Written::Refused(_) => 0,
-        }
+// How many bytes were written: 0 where it was refused.
+pub fn count(answer: Result<usize, Refusal>) -> usize
+    ensures { result ≡ numbers.count_of answer }
+{
+    match answer {
+        Ok(n) => n,
+        Err(_) => 0,
     }
 }

@@ -20,8 +20,6 @@ use Rattle.words.proofs.Laws.Cases.{by_bool}
 use Rattle.slices.specs.Same.{same}
 use Rattle.slices.specs.Over.{over}
 use Rattle.slices.proofs.Laws.Same.{same_true}
-use Rattle.refusals.specs.declared.Written.TheVariants as written
-use Rattle.refusals.specs.declared.Outcome.TheVariants.{Accepted}
 use Rattle.refusals.specs.Limits.{file_limit, payload_limit, written_block}
 use Rattle.refusals.proofs.Laws.Limits.{argon2_fits_bounds, bounds_argon2_fits}
 use Rattle.ciphers.specs.Ciphers.{identifier, cipher_of, nonce_length}
@@ -93,7 +91,7 @@ checked_writable g c b n w =
 
 -- figures that pass the header's checks are written, where payload and file are within their limits and there is room
 pub checked_writes : (g : Figures) (c : Cipher) (t b : List ℕ) (n : ℕ) → checked_of g ≡ Ok c → Fits g c b n
-    → writing g t b n ≡ written.Wrote (size_of g c b)
+    → writing g t b n ≡ Ok (size_of g c b)
 checked_writes g c t b n e f =
     sym (writing_as g c t b n e)
     ∙ ap (λ (x : ℕ). settled sizes (length b) x n) (length-file_bytes g c t b e)
@@ -102,12 +100,12 @@ checked_writes g c t b n e f =
 
 -- THE THEOREM
 pub writable_writes : (g : Figures) (c : Cipher) (t b : List ℕ) (n : ℕ) → Writable g c b n
-    → writing g t b n ≡ written.Wrote (size_of g c b)
+    → writing g t b n ≡ Ok (size_of g c b)
 writable_writes g c t b n w =
     checked_writes g c t b n (checked_writable g c b n w) w.fits
 
 -- .. and the other way round
-pub writes_writable : (g : Figures) (t b : List ℕ) (n m : ℕ) → writing g t b n ≡ written.Wrote m → IsWritten g b n m
+pub writes_writable : (g : Figures) (t b : List ℕ) (n m : ℕ) → writing g t b n ≡ Ok m → IsWritten g b n m
 unfolding checked_of
 writes_writable g t b n m h =
     let w = success sizes g t b n m h in
@@ -161,7 +159,7 @@ size_plain c fig l n k h =
     let e = blocks_length-le (text_length c n) (omega arith) in
     omega arith
 
-verdict_none : custom_verdict [] ≡ Accepted
+verdict_none : custom_verdict [] ≡ Ok tt
 unfolding custom_verdict
 verdict_none = refl
 

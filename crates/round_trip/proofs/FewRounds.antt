@@ -15,8 +15,6 @@ use native.Mathlib.Omega.{arith}
 use lib.ListN.{length}
 use borrow.Author.Tests.{le-leb, lt-leb, eq-eqb}
 use Rattle.refusals.specs.declared.Refusal.TheVariants.{TooManyRounds, TooFewRounds}
-use Rattle.refusals.specs.declared.Outcome.TheVariants.{Accepted}
-use Rattle.refusals.specs.declared.Written.TheVariants as written
 use Rattle.refusals.specs.Limits.{file_limit, rounds_least, rounds_limit}
 use Rattle.refusals.proofs.Laws.Limits.{rounds_some}
 use Rattle.ciphers.specs.declared.Cipher.{Cipher}
@@ -75,7 +73,7 @@ module _ (c : Cipher) (rounds : ℕ) (g : Figures) (a : Asks c rounds g) where
   unfolding checked_figures
   checked_many many = checked_asks ∙ rw (lt-leb rounds rounds_limit many)
 
-  checked_enough : rounds_least ≤ rounds → rounds ≤ rounds_limit → custom_verdict g.custom ≡ Accepted → checked_of g ≡ Ok c
+  checked_enough : rounds_least ≤ rounds → rounds ≤ rounds_limit → custom_verdict g.custom ≡ (Ok tt) → checked_of g ≡ Ok c
   unfolding checked_figures checked_custom
   checked_enough enough within sound =
       checked_asks ∙ rw (le-leb rounds rounds_limit within, le-leb rounds_least rounds enough, sound)
@@ -90,7 +88,7 @@ module _ (c : Cipher) (rounds : ℕ) (g : Figures) (a : Asks c rounds g) where
       rw header_is (λ f. header_few g.minor c g.seed g.nonce rounds g.salt g.custom rest a.minor_le
       a.seed_long a.nonce_long a.kdf_seed_long few f)
 
-  read_enough : rounds_least ≤ rounds → rounds ≤ rounds_limit → custom_verdict g.custom ≡ Accepted
+  read_enough : rounds_least ≤ rounds → rounds ≤ rounds_limit → custom_verdict g.custom ≡ Ok tt
       → (rest : List ℕ) → length (header_of g c ++ rest) ≤ file_limit
       → header (header_of g c ++ rest)
       ≡ Ok (written_header g.minor c (figures.AesKdf rounds) 32 (length g.custom))
@@ -139,7 +137,7 @@ reader_least s h k e i =
 
 -- written rounds
 writer_least : (g : Figures) (t b : List ℕ) (n m rounds : ℕ) → g.kdf ≡ figures.AesKdf rounds
-    → writing g t b n ≡ written.Wrote m
+    → writing g t b n ≡ Ok m
     → rounds_least ≤ rounds
 unfolding checked_of IsWritable
 writer_least g t b n m rounds i e =

@@ -14,7 +14,6 @@ use lib.ListN.{length, length-append}
 use borrow.Author.Tests.{le-leb, le-ltb}
 use Rattle.refusals.specs.Limits.{file_limit, written_block}
 use Rattle.refusals.proofs.Laws.Limits.{block_positive, payload_raised, file_raised, block_raised}
-use Rattle.refusals.specs.declared.Written.TheVariants.{Wrote}
 use Rattle.ciphers.specs.declared.Cipher.{Cipher}
 use Rattle.std.specs.Prelude.{Ok}
 use Rattle.cutting.specs.Cutting.{cut, blocks_from, cut_length}
@@ -74,7 +73,7 @@ module _ (g : Figures) (c : Cipher) (t b : List ℕ) where
   still_taken : (s r : Sizes) → s.payload ≤ r.payload → s.file ≤ r.file → 0 < s.block → s.block ≤ r.block
       → checked_of g ≡ Ok c → (n : ℕ) → length b ≤ s.payload → length (file_cut s.block g c t b) ≤ s.file
       → length (file_cut s.block g c t b) ≤ n
-      → writing_with r g t b n ≡ Wrote (length (file_cut r.block g c t b))
+      → writing_with r g t b n ≡ Ok (length (file_cut r.block g c t b))
   unfolding writing_with writing_by settled
   still_taken s r hp hf some hb e n lp lf ln =
       let l = cut-le s.block r.block some hb in

@@ -15,7 +15,6 @@ use Rattle.refusals.proofs.Laws.Limits.{block_positive}
 use Rattle.words.specs.Endian.{Bytes}
 use Rattle.words.specs.Block.{IsBlock}
 use Rattle.refusals.specs.Limits.{file_limit, written_block}
-use Rattle.refusals.specs.declared.Written.TheVariants as written
 use Rattle.ciphers.specs.declared.Cipher.{Cipher}
 use Rattle.ciphers.specs.declared.Cipher.TheVariants.{Aes256, ChaCha20}
 use Rattle.std.specs.Prelude.{Ok}
@@ -98,7 +97,7 @@ written_opens z some g c t b ok p n fits = opens z some g c t b ok p n fits
 
 -- of what the writer's contract says it answers, and leaves of the lent bytes
 pub writing_opens : (g : Figures) (t b before after : List ℕ) (m : ℕ) → Bytes b → Bytes g.nonce
-    → writing g t b (length before) ≡ written.Wrote m → after ≡ over (shown g t b (length before)) before
+    → writing g t b (length before) ≡ Ok m → after ≡ over (shown g t b (length before)) before
     → WrittenOpens g t b before after m
 writing_opens g t b before after m p q h left =
     let w = success sizes g t b (length before) m h in

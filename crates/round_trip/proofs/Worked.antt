@@ -11,8 +11,6 @@ use native.Mathlib.Omega.{arith}
 use lib.ListN.{length, take, drop, length-drop, take-append-drop}
 use lib.Seq.{length-take-le}
 use Rattle.refusals.specs.declared.Refusal.TheVariants.{CutShort, TooManyRounds}
-use Rattle.refusals.specs.declared.Outcome.TheVariants as outcome
-use Rattle.refusals.specs.declared.Written.TheVariants.{Wrote}
 use Rattle.refusals.specs.Limits.{file_limit, payload_limit, rounds_limit, written_block}
 use Rattle.refusals.proofs.Laws.Limits.{block-pieces}
 use Rattle.ciphers.specs.Ciphers.{cipher_of, nonce_length}
@@ -87,7 +85,7 @@ file_length-rounds : (c : Cipher) (rounds l m n : ℕ)
 unfolding file_length header_length kdf_length
 file_length-rounds c rounds l m n = refl
 
-no_custom_sound : (g : Figures) → g.custom ≡ [] → custom_verdict g.custom ≡ outcome.Accepted
+no_custom_sound : (g : Figures) → g.custom ≡ [] → custom_verdict g.custom ≡ Ok tt
 unfolding custom_verdict
 no_custom_sound g e = rw e
 
@@ -123,9 +121,9 @@ module _ (c : Cipher) (g : Figures) (p : Plain c g) where
   unfolding payload_limit file_limit
   plain_writes t b n m f e l o r i =
       let s : size_of g c b ≡ m = size_is b ∙ e in
-      let w : writing g t b n ≡ Wrote m =
+      let w : writing g t b n ≡ Ok m =
       checked_writes g c t b n checked (record { payload_le = omega arith; file_le = omega arith; room = omega arith })
-      ∙ ap Wrote s in
+      ∙ ap Ok s in
       record { answers = w; shows = shown-wrote sizes g c t b n m checked w ∙ i }
 
 file_0 : plain_length Aes256 0 ≡ 359
@@ -264,9 +262,9 @@ handed_over_lem t f k p s z rooms e c l =
 
 -- figures of AES-KDF that pass, where payload and file fit
 asks_writes : (c : Cipher) (rounds : ℕ) (g : Figures) → Asks c rounds g → 6_000 ≤ rounds → rounds ≤ 4_000_000
-    → custom_verdict g.custom ≡ outcome.Accepted
+    → custom_verdict g.custom ≡ Ok tt
     → (t b : List ℕ) (n : ℕ) → Fits g c b n
-    → writing g t b n ≡ Wrote (size_of g c b)
+    → writing g t b n ≡ Ok (size_of g c b)
 asks_writes c rounds g a l u v t b n f = checked_writes g c t b n (few_rounds.writer_passes c rounds g a l u v) f
 
 -- 4,000,000 rounds, and one more
@@ -274,13 +272,13 @@ most_is : rounds_limit ≡ 4_000_000
 unfolding rounds_limit
 most_is = refl
 
-started_most : (composite seed : List ℕ) → (aes_kdf.start composite seed 4_000_000).outcome ≡ outcome.Accepted
+started_most : (composite seed : List ℕ) → (aes_kdf.start composite seed 4_000_000).outcome ≡ Ok tt
 unfolding aes_kdf.start rounds_limit
 started_most composite seed = refl
 
 started_more : (composite seed : List ℕ)
     → aes_kdf.start composite seed 4_000_001
-    ≡ record { outcome = outcome.Refused (TooManyRounds 0); next = aes_kdf.refused }
+    ≡ record { outcome = Err (TooManyRounds 0); next = aes_kdf.refused }
 unfolding aes_kdf.start rounds_limit
 started_more composite seed = refl
 

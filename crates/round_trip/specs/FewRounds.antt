@@ -10,8 +10,6 @@
 use Rattle.std.specs.Prelude.{◌≡◌, true, List, [], ◌++◌, ℕ, ◌+◌, ◌≤◌, ◌<◌, length, Some, Ok, Err}
 use Rattle.words.specs.Endian.{le}
 use Rattle.refusals.specs.declared.Refusal.TheVariants.{TooFewRounds}
-use Rattle.refusals.specs.declared.Outcome.TheVariants.{Accepted}
-use Rattle.refusals.specs.declared.Written.TheVariants as written
 use Rattle.refusals.specs.Limits.{file_limit}
 use Rattle.fields.specs.Fields.{bytes_at, given}
 use Rattle.ciphers.specs.Ciphers.{cipher_of, nonce_length}
@@ -78,7 +76,7 @@ pub record FewRounds : Type 0 where
   pub reader_takes : (s : List ℕ) (h : Header) (k : AesKdf) → header s ≡ Ok h → h.kdf ≡ kdf.AesKdf k
       → 6_000 ≤ k.rounds
   pub writer_takes : (g : Figures) (t b : List ℕ) (n m rounds : ℕ) → g.kdf ≡ figures.AesKdf rounds
-      → writing g t b n ≡ written.Wrote m
+      → writing g t b n ≡ Ok m
       → 6_000 ≤ rounds
   -- the reader, the start and the whole opener answer 20 at the item `R`, whatever the custom dictionary is and whatever stands behind
   pub reader_refuses : (rounds : ℕ) (s : List ℕ) (i : Begins rounds s) → rounds < 6_000
@@ -89,7 +87,7 @@ pub record FewRounds : Type 0 where
       → (t : List ℕ) (n : ℕ) → opened_in t s n ≡ refused (TooFewRounds (rounds_at rounds s i))
   -- with any custom dictionary, any payload and any room the writer answers 20, and writes nothing
   pub writer_refuses : (c : Cipher) (rounds : ℕ) (g : Figures) → Asks c rounds g → rounds < 6_000
-      → (t b : List ℕ) (n : ℕ) → writing g t b n ≡ written.Refused (TooFewRounds 0)
+      → (t b : List ℕ) (n : ℕ) → writing g t b n ≡ Err (TooFewRounds 0)
   pub nothing_shown : (c : Cipher) (rounds : ℕ) (g : Figures) → Asks c rounds g → rounds < 6_000
       → (t b : List ℕ) (n : ℕ) → shown g t b n ≡ []
   -- what was written with such figures before is refused by the reader
@@ -98,10 +96,10 @@ pub record FewRounds : Type 0 where
       → header (header_of g c ++ rest) ≡ Err (TooFewRounds (rounds_item c))
   -- from 6,000 to 4,000,000 both take them
   pub writer_passes : (c : Cipher) (rounds : ℕ) (g : Figures) → Asks c rounds g → 6_000 ≤ rounds → rounds ≤ 4_000_000
-      → custom_verdict g.custom ≡ Accepted
+      → custom_verdict g.custom ≡ Ok tt
       → checked_of g ≡ Ok c
   pub reader_passes : (c : Cipher) (rounds : ℕ) (g : Figures) → Asks c rounds g → 6_000 ≤ rounds → rounds ≤ 4_000_000
-      → custom_verdict g.custom ≡ Accepted
+      → custom_verdict g.custom ≡ Ok tt
       → (rest : List ℕ) → length (header_of g c ++ rest) ≤ file_limit
       → header (header_of g c ++ rest)
       ≡ Ok (written_header g.minor c (figures.AesKdf rounds) 32 (length g.custom))

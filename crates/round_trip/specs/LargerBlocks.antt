@@ -11,7 +11,6 @@
 -- Assumes nothing.
 use Rattle.std.specs.Prelude.{◌≡◌, List, ℕ, ◌+◌, ◌≤◌, ◌<◌, length, Ok}
 use Rattle.words.specs.Endian.{Bytes}
-use Rattle.refusals.specs.declared.Written.TheVariants.{Wrote}
 use Rattle.ciphers.specs.declared.Cipher.{Cipher}
 use Rattle.cutting.specs.Cutting.{cut}
 use Rattle.recutting.specs.Recut.{IsCutting}
@@ -47,7 +46,7 @@ pub record SinceThen (g : Figures) (t b : List ℕ) (n : ℕ) : Type 0 where
   pub file_before : shown_with before g t b n ≡ file_cut before.block g cipher t b
   pub file_now : shown g t b n ≡ file_cut sizes.block g cipher t b
   -- it is still taken
-  pub taken : writing g t b n ≡ Wrote (length (shown g t b n))
+  pub taken : writing g t b n ≡ Ok (length (shown g t b n))
   -- "any other gives the same bytes"
   pub same : length (ciphertext g cipher t b) ≤ 16_384 → shown g t b n ≡ shown_with before g t b n
   -- "a ciphertext over 16,384 bytes now gives other bytes and fewer tags"
@@ -62,4 +61,4 @@ pub record SinceThen (g : Figures) (t b : List ℕ) (n : ℕ) : Type 0 where
   pub cut_back : IsCutting (file_keys g cipher t) (shown g t b n) (first_block_of g cipher) (shown_with before g t b n)
 
 abbrev pub LargerBlocks : Type 0
-LargerBlocks = (g : Figures) (t b : List ℕ) (n m : ℕ) → writing_with before g t b n ≡ Wrote m → SinceThen g t b n
+LargerBlocks = (g : Figures) (t b : List ℕ) (n m : ℕ) → writing_with before g t b n ≡ Ok m → SinceThen g t b n

@@ -14,8 +14,6 @@
 use Rattle.std.specs.Prelude.{◌≡◌, false, ◌≢◌, List, [], ◌∷◌, ◌++◌, ℕ, ◌+◌, ◌-◌, ◌≤◌, ◌<◌, length, get_or, take, drop, Ok, Err}
 use Rattle.words.specs.Endian.{le, Bytes}
 use Rattle.refusals.specs.declared.Refusal.TheVariants.{CutShort, WrongSize, TooManyRounds, TooFewRounds}
-use Rattle.refusals.specs.declared.Outcome.TheVariants as outcome
-use Rattle.refusals.specs.declared.Written.TheVariants.{Wrote, Refused}
 use Rattle.refusals.specs.Limits.{file_limit, written_block}
 use Rattle.pkcs7.specs.Pkcs7.{padding}
 use Rattle.ciphers.specs.Ciphers.{identifier, nonce_length}
@@ -62,7 +60,7 @@ pub record Plain (c : Cipher) (g : Figures) : Type 0 where
 
 -- with n bytes lent the writer answers m, and writes f
 pub record Writes (g : Figures) (t b : List ℕ) (n m : ℕ) (f : List ℕ) : Type 0 where
-  pub answers : writing g t b n ≡ Wrote m
+  pub answers : writing g t b n ≡ Ok m
   pub shows : shown g t b n ≡ f
 
 -- the tag base of a written file, its ciphertext, and all of it before the first block
@@ -182,13 +180,13 @@ pub record WorkedNumbers : Type 0 where
       → length (handed_over k f p rooms) ≡ 16
   -- "AES blocks of 5 and 27: 0 then 16; padding 1 adds 15, padding 16 adds 0": any such file
   pub steps_5_27 : (k : Keys) (f : List ℕ) (p : ℕ) → Blocks5And27 k f p → (n m : ℕ) → 16 ≤ m
-      → writtens (step_answers k f p (n ∷ m ∷ [])) ≡ Wrote 0 ∷ Wrote 16 ∷ []
+      → writtens (step_answers k f p (n ∷ m ∷ [])) ≡ Ok 0 ∷ Ok 16 ∷ []
   pub padding_1 : (k : Keys) (f : List ℕ) (p : ℕ) → Blocks5And27 k f p → ClosingBehind k f p
       → padding (decryption_by Aes256 k (ciphertext f p)) ≡ 1 → (n m r : ℕ) → 16 ≤ m → 15 ≤ r
-      → writtens (step_answers k f p (n ∷ m ∷ r ∷ [])) ≡ Wrote 0 ∷ Wrote 16 ∷ Wrote 15 ∷ []
+      → writtens (step_answers k f p (n ∷ m ∷ r ∷ [])) ≡ Ok 0 ∷ Ok 16 ∷ Ok 15 ∷ []
   pub padding_16 : (k : Keys) (f : List ℕ) (p : ℕ) → Blocks5And27 k f p → ClosingBehind k f p
       → padding (decryption_by Aes256 k (ciphertext f p)) ≡ 16 → (n m r : ℕ) → 16 ≤ m
-      → writtens (step_answers k f p (n ∷ m ∷ r ∷ [])) ≡ Wrote 0 ∷ Wrote 16 ∷ Wrote 0 ∷ []
+      → writtens (step_answers k f p (n ∷ m ∷ r ∷ [])) ≡ Ok 0 ∷ Ok 16 ∷ Ok 0 ∷ []
   -- .. and there are such files: a payload of 31 bytes has a padding of 1, one of 16 bytes a padding of 16
   pub has_5_27 : (g : Figures) → Plain Aes256 g → Bytes g.nonce → (t b : List ℕ) → Bytes b → 16 ≤ length b
       → length b < 32
@@ -197,7 +195,7 @@ pub record WorkedNumbers : Type 0 where
   pub custom_negative : (s : List ℕ) (at : ℕ) → CustomOf 0xFFFFFFFF s at → header s ≡ Err (WrongSize at)
   pub custom_long : (s : List ℕ) (at : ℕ) → CustomOf 0x7FFFFFFF s at → header s ≡ Err (CutShort (length s))
   -- "Rounds 4,000,000 pass, 4,000,001 give 11": the reader of a whole header, whose fields and items stand in any order
-  pub read_most : (s : List ℕ) (i : Begins 4_000_000 s) → custom_of s i.fields.custom ≡ outcome.Accepted
+  pub read_most : (s : List ℕ) (i : Begins 4_000_000 s) → custom_of s i.fields.custom ≡ Ok tt
       → header s
       ≡ Ok (record {
         minor = i.minor;
@@ -212,28 +210,28 @@ pub record WorkedNumbers : Type 0 where
   pub read_more : (s : List ℕ) (i : Begins 4_000_001 s)
       → header s ≡ Err (TooManyRounds (rounds_at 4_000_001 s i))
   -- .. the writer
-  pub written_most : (c : Cipher) (g : Figures) → Asks c 4_000_000 g → custom_verdict g.custom ≡ outcome.Accepted
+  pub written_most : (c : Cipher) (g : Figures) → Asks c 4_000_000 g → custom_verdict g.custom ≡ Ok tt
       → (t b : List ℕ) (n : ℕ) → Fits g c b n
-      → writing g t b n ≡ Wrote (size_of g c b)
+      → writing g t b n ≡ Ok (size_of g c b)
   pub written_more : (c : Cipher) (g : Figures) → Asks c 4_000_001 g
-      → (t b : List ℕ) (n : ℕ) → writing g t b n ≡ Refused (TooManyRounds 0)
+      → (t b : List ℕ) (n : ℕ) → writing g t b n ≡ Err (TooManyRounds 0)
   -- .. and the start of AES-KDF
-  pub started_most : (composite seed : List ℕ) → (aes_kdf.start composite seed 4_000_000).outcome ≡ outcome.Accepted
+  pub started_most : (composite seed : List ℕ) → (aes_kdf.start composite seed 4_000_000).outcome ≡ Ok tt
   pub started_more : (composite seed : List ℕ)
       → aes_kdf.start composite seed 4_000_001
-      ≡ record { outcome = outcome.Refused (TooManyRounds 0); next = aes_kdf.refused }
+      ≡ record { outcome = Err (TooManyRounds 0); next = aes_kdf.refused }
   -- document 02, Item 3: 6,000 pass, 5,999 give 20, of the reader of a whole header and of the writer
-  pub read_6000 : (c : Cipher) (g : Figures) → Asks c 6_000 g → custom_verdict g.custom ≡ outcome.Accepted
+  pub read_6000 : (c : Cipher) (g : Figures) → Asks c 6_000 g → custom_verdict g.custom ≡ Ok tt
       → (rest : List ℕ) → length (header_of g c ++ rest) ≤ file_limit
       → header (header_of g c ++ rest)
       ≡ Ok (written_header g.minor c (figures.AesKdf 6_000) 32 (length g.custom))
   pub read_5999 : (c : Cipher) (g : Figures) → Asks c 5_999 g
       → (rest : List ℕ) → length (header_of g c ++ rest) ≤ file_limit
       → header (header_of g c ++ rest) ≡ Err (TooFewRounds (rounds_item c))
-  pub written_6000 : (c : Cipher) (g : Figures) → Asks c 6_000 g → custom_verdict g.custom ≡ outcome.Accepted
+  pub written_6000 : (c : Cipher) (g : Figures) → Asks c 6_000 g → custom_verdict g.custom ≡ Ok tt
       → (t b : List ℕ) (n : ℕ) → Fits g c b n
-      → writing g t b n ≡ Wrote (size_of g c b)
+      → writing g t b n ≡ Ok (size_of g c b)
   pub written_5999 : (c : Cipher) (g : Figures) → Asks c 5_999 g
-      → (t b : List ℕ) (n : ℕ) → writing g t b n ≡ Refused (TooFewRounds 0)
+      → (t b : List ℕ) (n : ℕ) → writing g t b n ≡ Err (TooFewRounds 0)
   -- "Eleven bytes of anything: 2"
   pub eleven : (s : List ℕ) → length s ≡ 11 → header s ≡ Err (CutShort 11)

@@ -7,8 +7,7 @@
 --   what such an input comes to                                                                   IsWritten
 -- g are the figures, c is their cipher, b the payload, n the lent length. T may be anything.
 -- Assumes nothing.
-use Rattle.std.specs.Prelude.{◌≡◌, List, ℕ, ◌≤◌, length}
-use Rattle.refusals.specs.declared.Outcome.TheVariants.{Accepted}
+use Rattle.std.specs.Prelude.{◌≡◌, List, ℕ, ◌≤◌, length, Ok}
 use Rattle.refusals.specs.Limits.{file_limit, payload_limit, rounds_limit, rounds_least, Argon2Bounds}
 use Rattle.ciphers.specs.Ciphers.{identifier, nonce_length}
 use Rattle.ciphers.specs.declared.Cipher.{Cipher}
@@ -44,7 +43,7 @@ pub record Writable (g : Figures) (c : Cipher) (b : List ℕ) (n : ℕ) : Type 0
   -- 11, 20, 22
   pub kdf_taken : KdfTaken g.kdf (length g.salt)
   -- 10 or 6, where there is a custom dictionary
-  pub custom_sound : custom_verdict g.custom ≡ Accepted
+  pub custom_sound : custom_verdict g.custom ≡ Ok tt
   -- 1, 17
   pub fits : Fits g c b n
 

@@ -11,7 +11,7 @@ ghost use Rattle.fips180.specs.State.{held};
 ghost use Rattle.sha512.specs.State as state;
 
 use fips180::{State, Working};
-use refusals::{Outcome, Refusal};
+use refusals::Refusal;
 
 mod tables;
 
@@ -26,14 +26,14 @@ pub struct Sha512 {
 // A feed's answer, and the next state.
 #[derive(Clone, Copy)]
 pub struct Fed {
-    pub outcome: Outcome,
+    pub outcome: Result<(), Refusal>,
     pub next: Sha512,
 }
 
 // The answer for a whole message: zeros where it is refused.
 #[derive(Clone, Copy)]
 pub struct Hashed {
-    pub outcome: Outcome,
+    pub outcome: Result<(), Refusal>,
     pub digest: [u8; 64],
 }
 
@@ -108,12 +108,12 @@ pub fn hash(m: &[u8]) -> Hashed
     if refusals::limits::message_fits(m.len()) {
         let digest = Sha512::start().feed(m).next.finish();
         return Hashed {
-            outcome: Outcome::Accepted,
+            outcome: Ok(()),
             digest,
         };
     }
     Hashed {
-        outcome: Outcome::Refused(Refusal::TooLong),
+        outcome: Err(Refusal::TooLong),
         digest: [0u8; 64],
     }
 }

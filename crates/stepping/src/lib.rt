@@ -10,10 +10,10 @@ ghost use Rattle.slices.specs.Over.{over};
 ghost use Rattle.stepping.specs.Stepping as stepping;
 
 use opening::{Opener, Phase};
-use refusals::{Outcome, Refusal, Written};
+use refusals::Refusal;
 
 // Steps one after the other from a state, each lent the part of `out` behind what the others wrote.
-fn run_steps(first: Opener, f: &[u8], out: &mut [u8]) -> Written
+fn run_steps(first: Opener, f: &[u8], out: &mut [u8]) -> Result<usize, Refusal>
     ensures value { result ≡ stepping.written_of (stepping.stepping (length f.now) f.now first (length out.old)) }
     ensures out_after { out.new ≡ over (stepping.stepping (length f.now) f.now first (length out.old)).bytes out.old }
 {
@@ -25,21 +25,21 @@ fn run_steps(first: Opener, f: &[u8], out: &mut [u8]) -> Written
         let next = s.next;
         let phase = next.phase;
         match answer {
-            Written::Refused(r) => return Written::Refused(r),
-            Written::Wrote(n) => {
+            Err(r) => return Err(r),
+            Ok(n) => {
                 if let Phase::Ended = phase {
-                    return Written::Wrote(at + n);
+                    return Ok(at + n);
                 }
                 at += n;
                 o = next;
             }
         }
     }
-    Written::Refused(Refusal::CutShort(0))
+    Err(Refusal::CutShort(0))
 }
 
 // Opens a vault: the start, then the steps. The answer is how many bytes they handed over in all.
-pub fn open_steps(f: &[u8], t: [u8; 32], out: &mut [u8]) -> Written
+pub fn open_steps(f: &[u8], t: [u8; 32], out: &mut [u8]) -> Result<usize, Refusal>
     ensures value { result ≡ stepping.written_of (stepping.ran_from t f.now (length out.old)) }
     ensures out_after { out.new ≡ over (stepping.ran_from t f.now (length out.old)).bytes out.old }
 {
@@ -47,7 +47,7 @@ pub fn open_steps(f: &[u8], t: [u8; 32], out: &mut [u8]) -> Written
     let outcome = s.outcome;
     let first = s.next;
     match outcome {
-        Outcome::Refused(r) => return Written::Refused(r),
-        Outcome::Accepted => return run_steps(first, f, out),
+        Err(r) => return Err(r),
+        Ok(()) => return run_steps(first, f, out),
     }
 }

@@ -23,7 +23,7 @@ fn main(rt: HostRuntime) -> io::Result<()> {
         b"transformed",
         b"demo",
         t.done as usize,
-        f.outcome.number(),
+        refusals::number(f.outcome),
         &f.key,
     )
 }

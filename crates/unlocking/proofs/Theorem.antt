@@ -14,8 +14,7 @@ use lib.Dec.{leb, ltb}
 use lib.ListN.{length}
 use borrow.Author.Tests.{le-leb, le-ltb}
 use Rattle.refusals.specs.declared.Refusal.TheVariants.{NoRoom}
-use Rattle.refusals.specs.declared.Outcome.{Outcome}
-use Rattle.refusals.specs.declared.Outcome.TheVariants.{Accepted, Refused}
+use Rattle.refusals.specs.Numbers.{Outcome}
 use Rattle.refusals.specs.Limits.{message_limit, argon2_fits}
 use Rattle.refusals.proofs.Laws.Limits.{message_blocks, argon2_fits_bounds}
 use Rattle.fields.specs.Fields.{bytes_at}
@@ -30,19 +29,19 @@ use Rattle.kdf_dictionary.specs.declared.Kdf.TheVariants as kdf
 use Rattle.kdf_dictionary.proofs.Laws.Asks.{IsArgon2, IsAsked}
 use Rattle.outer_header.specs.Kdbx4Header.{header}
 use Rattle.outer_header.specs.declared.Header.{Header}
-use Rattle.std.specs.Prelude.{Ok}
+use Rattle.std.specs.Prelude.{Ok, Err}
 use Rattle.outer_header.proofs.Laws.Accepted.{header_stands}
 use Rattle.unlocking.specs.Unlocking.{inputs_of, argon2_words, key_of, words_of}
 use Rattle.unlocking.proofs.Laws.Key.{placed-length}
 
 -- Accepted where n words are enough
 abbrev pub enough : ℕ → ℕ → Outcome
-enough n lent = cond (ltb lent n) (Refused NoRoom) Accepted
+enough n lent = cond (ltb lent n) (Err NoRoom) (Ok tt)
 
 transformed-outcome : (o : Outcome) (i : Inputs) → (transformed o i).outcome ≡ o
 unfolding transformed
-transformed-outcome Accepted i = refl
-transformed-outcome (Refused r) i = refl
+transformed-outcome (Ok tt) i = refl
+transformed-outcome (Err r) i = refl
 
 module _ (f : List ℕ) (h : Header) (e : header f ≡ Ok h) (key : List ℕ) (n : length key ≡ 32) (lent : ℕ) where
   pub argon2_answers : (y : Kind) (a : Argon2) → IsArgon2 h.kdf_dictionary a

@@ -18,11 +18,10 @@
 use Rattle.std.specs.Prelude.{cond, ◌||◌, List, [], ℕ, length, Result, Ok, Err}
 use Rattle.refusals.specs.declared.Refusal.{Refusal}
 use Rattle.refusals.specs.declared.Refusal.TheVariants.{TooLong}
-use Rattle.refusals.specs.declared.Outcome.{Outcome}
-use Rattle.refusals.specs.declared.Outcome.TheVariants as outcome
+use Rattle.refusals.specs.Numbers.{Outcome}
 use Rattle.refusals.specs.Limits.{program_limit}
 use Rattle.fields.specs.Fields.{bytes_at}
-use Rattle.keys.specs.Kdbx4Keys.{Credential, given, absent, over, composite}
+use Rattle.keys.specs.Kdbx4Keys.{Credential, given, absent, Composed, over, composite}
 use Rattle.aes_kdf.specs.AesKdf.{transformed_key}
 use Rattle.argon2.specs.Rfc9106.{Inputs}
 use Rattle.argon2.specs.Run as run
@@ -66,7 +65,7 @@ argon2_left y a key f m = run.left (run.outcome (inputs_of y a key f) a.memory (
 
 unfoldable pub key_of : Kdf → List ℕ → List ℕ → ℕ → Transformed
 key_of (kdf.AesKdf k) key f lent =
-    record { outcome = outcome.Accepted; key = transformed_key key (bytes_at f k.seed) k.rounds }
+    record { outcome = Ok tt; key = transformed_key key (bytes_at f k.seed) k.rounds }
 key_of (kdf.Argon2d a) key f lent = argon2_key kind.Argon2d a key f lent
 key_of (kdf.Argon2id a) key f lent = argon2_key kind.Argon2id a key f lent
 
@@ -95,8 +94,8 @@ document_of (Ok i) n = Document i.document n
 
 -- the payload that the steps handed over, or why one was refused
 unfoldable pub answer_of : Outcome → List ℕ → Unlocked
-answer_of (outcome.Refused r) b = Refused r
-answer_of outcome.Accepted b = document_of (inner b) (length b)
+answer_of (Err r) b = Refused r
+answer_of (Ok tt) b = document_of (inner b) (length b)
 
 unfoldable pub opening : List ℕ → List ℕ → ℕ → Opened
 opening t f n =
@@ -107,8 +106,8 @@ opening t f n =
 
 -- .. where T is not refused
 unfoldable pub opening_under : Outcome → List ℕ → List ℕ → ℕ → Opened
-opening_under (outcome.Refused r) t f n = record { answer = Refused r; bytes = [] }
-opening_under outcome.Accepted t f n = opening t f n
+opening_under (Err r) t f n = record { answer = Refused r; bytes = [] }
+opening_under (Ok tt) t f n = opening t f n
 
 -- .. by an answer of a KDF
 abbrev pub opening_keyed : Transformed → List ℕ → ℕ → Opened
@@ -126,12 +125,12 @@ unfoldable pub opening_by : Result Header Refusal → List ℕ → List ℕ → 
 opening_by (Err r) key f n m = refusing r m
 opening_by (Ok h) key f n m = opening_with h.kdf key f n m
 
-unfoldable pub opening_if : Outcome → List ℕ → List ℕ → ℕ → List ℕ → Opening
-opening_if (outcome.Refused r) key f n m = refusing r m
-opening_if outcome.Accepted key f n m = opening_by (header f) key f n m
+unfoldable pub opening_if : Composed → List ℕ → ℕ → List ℕ → Opening
+opening_if (Err r) f n m = refusing r m
+opening_if (Ok key) f n m = opening_by (header f) key f n m
 
 unfoldable pub opening_as : Credential → Credential → List ℕ → ℕ → List ℕ → Opening
-opening_as p k f n m = opening_if (composite p k absent).outcome (composite p k absent).key f n m
+opening_as p k f n m = opening_if (composite p k absent) f n m
 
 unfoldable pub unlocked : Credential → Credential → List ℕ → ℕ → List ℕ → Opening
 unlocked p k f n m =

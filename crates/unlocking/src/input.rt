@@ -8,20 +8,6 @@ use std::io;
 use std::io::Read;
 use std::rt::Files;
 
-// How many bytes were read, or why the file cannot be opened.
-#[derive(Clone, Copy)]
-pub enum Input {
-    Bytes(usize),
-    NotOpened(io::Error),
-}
-
-// A line's length without its line feed, and whether there was one: an empty line is one, an input of no bytes is not.
-#[derive(Clone, Copy)]
-pub struct Line {
-    pub length: usize,
-    pub given: bool,
-}
-
 // Room for a PC program's input, and one byte more, so that a longer one is seen to be longer.
 pub fn room() -> [u8; 65_537]
     ensures { 65537 ≡ length result }
@@ -37,12 +23,11 @@ fn open<R: Files>(rt: &R, path: &[u8]) -> io::Result<R::File> {
     }
 }
 
-// Reads a file from its start, as much as `buf` has room for. A read that fails counts as the file's end.
-pub fn read_file(rt: &impl Files, path: &[u8], buf: &mut [u8]) -> Input {
-    match open(rt, path) {
-        Ok(mut file) => Input::Bytes(console::read_full(&mut file, buf)),
-        Err(e) => Input::NotOpened(e),
-    }
+// Reads a file from its start, as much as `buf` has room for, and answers how many bytes those are, or why the file
+// cannot be opened. A read that fails counts as the file's end.
+pub fn read_file(rt: &impl Files, path: &[u8], buf: &mut [u8]) -> io::Result<usize> {
+    let mut file = open(rt, path)?;
+    Ok(console::read_full(&mut file, buf))
 }
 
 // Reads one byte, so that nothing behind a line is taken: none at the input's end.
@@ -54,27 +39,15 @@ fn read_byte(from: &mut impl Read) -> Option<u8> {
     None
 }
 
-// Reads a line, as much as `buf` has room for.
-pub fn read_line(from: &mut impl Read, buf: &mut [u8]) -> Line {
+// Reads a line, as much as `buf` has room for, and answers its length without its line feed: an empty line is one, an
+// input of no bytes is not.
+pub fn read_line(from: &mut impl Read, buf: &mut [u8]) -> Option<usize> {
     for (at, x) in buf.iter_mut().enumerate() {
         match read_byte(from) {
-            None => {
-                return Line {
-                    length: at,
-                    given: 0 < at,
-                };
-            }
-            Some(b'\n') => {
-                return Line {
-                    length: at,
-                    given: true,
-                };
-            }
+            None => return (0 < at).then_some(at),
+            Some(b'\n') => return Some(at),
             Some(b) => *x = b,
         }
     }
-    Line {
-        length: buf.len(),
-        given: true,
-    }
+    Some(buf.len())
 }

@@ -12,7 +12,6 @@ ghost use Rattle.unlocking.specs.Unlocking as unlocking;
 use argon2::{Kind, Transformed};
 use kdf_dictionary::{AesKdf, Argon2, Kdf};
 use outer_header::Header;
-use refusals::Outcome;
 
 // T by AES-KDF.
 fn by_rounds(rt: &impl Eprint, f: &[u8], k: AesKdf, composite: [u8; 32]) -> [u8; 32]
@@ -73,7 +72,7 @@ pub(crate) fn key_of(
         Kdf::AesKdf(k) => {
             let key = by_rounds(rt, f, k, composite);
             return Transformed {
-                outcome: Outcome::Accepted,
+                outcome: Ok(()),
                 key,
             };
         }

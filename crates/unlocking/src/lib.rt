@@ -10,17 +10,17 @@
 // that Argon2 used are zeros; all others stay.
 #![tactic(auto)]
 
-ghost use Rattle.std.specs.Prelude.{◌≡◌, not, length, Ok};
-ghost use Rattle.refusals.specs.Limits.{program_limit};
+ghost use Rattle.std.specs.Prelude.{◌≡◌, length, Ok};
 ghost use Rattle.slices.specs.Over.{over};
-ghost use Rattle.keys.specs.Kdbx4Keys as keys;
+ghost use Rattle.keys.specs.State as credentials;
 ghost use Rattle.outer_header.specs.Kdbx4Header.{header};
 ghost use Rattle.inner_header.specs.InnerHeader as kdbx4;
 ghost use Rattle.unlocking.specs.Unlocking as unlocking;
 ghost use Rattle.unlocking.specs.Answers as answers;
 
 use outer_header::Header;
-use refusals::{Outcome, Refusal, Written};
+use refusals::Refusal;
+use refusals::limits::PROGRAM_LIMIT;
 
 pub mod input;
 mod key;
@@ -72,16 +72,6 @@ impl Unlocked {
     }
 }
 
-// Whether an input, where it is given, is within a PC program's limit.
-fn is_within(s: &[u8], given: bool) -> bool
-    ensures { result ≡ not (keys.over program_limit (keys.credential given s.now)) }
-{
-    if given {
-        return refusals::limits::program_input_fits(s.len());
-    }
-    true
-}
-
 // The document's place in a payload.
 fn find_document(payload: &[u8]) -> Unlocked
     ensures { result ≡ unlocking.document_of (kdbx4.inner payload.now) (length payload.now) }
@@ -93,16 +83,16 @@ fn find_document(payload: &[u8]) -> Unlocked
 }
 
 // Opens a vault by T, where that is not refused.
-fn open_under(f: &[u8], outcome: Outcome, t: [u8; 32], out: &mut [u8]) -> Unlocked
+fn open_under(f: &[u8], outcome: Result<(), Refusal>, t: [u8; 32], out: &mut [u8]) -> Unlocked
     ensures value { result ≡ (unlocking.opening_under outcome t f.now (length out.old)).answer }
     ensures out_after { out.new ≡ over (unlocking.opening_under outcome t f.now (length out.old)).bytes out.old }
 {
     match outcome {
-        Outcome::Refused(r) => return Unlocked::Refused(r),
-        Outcome::Accepted => {
+        Err(r) => return Unlocked::Refused(r),
+        Ok(()) => {
             match stepping::open_steps(f, t, out) {
-                Written::Refused(r) => return Unlocked::Refused(r),
-                Written::Wrote(n) => return find_document(slices::part(out, 0, n)),
+                Err(r) => return Unlocked::Refused(r),
+                Ok(n) => return find_document(slices::part(out, 0, n)),
             }
         }
     }
@@ -150,31 +140,18 @@ fn open_by(
 fn open_as(
     rt: &impl Eprint,
     f: &[u8],
-    password: &[u8],
-    has_password: bool,
-    key_file: &[u8],
-    has_key_file: bool,
+    password: Option<&[u8]>,
+    key_file: Option<&[u8]>,
     out: &mut [u8],
     memory: &mut [u64],
 ) -> Unlocked
-    ensures value { result ≡ (unlocking.opening_as (keys.credential has_password password.now) (keys.credential has_key_file key_file.now) f.now (length out.old) memory.old).answer }
-    ensures out_after { out.new ≡ over (unlocking.opening_as (keys.credential has_password password.now) (keys.credential has_key_file key_file.now) f.now (length out.old) memory.old).bytes out.old }
-    ensures memory_after { memory.new ≡ (unlocking.opening_as (keys.credential has_password password.now) (keys.credential has_key_file key_file.now) f.now (length out.old) memory.old).memory }
+    ensures value { result ≡ (unlocking.opening_as (credentials.credential password.entry) (credentials.credential key_file.entry) f.now (length out.old) memory.old).answer }
+    ensures out_after { out.new ≡ over (unlocking.opening_as (credentials.credential password.entry) (credentials.credential key_file.entry) f.now (length out.old) memory.old).bytes out.old }
+    ensures memory_after { memory.new ≡ (unlocking.opening_as (credentials.credential password.entry) (credentials.credential key_file.entry) f.now (length out.old) memory.old).memory }
 {
-    // There is no pre-hash, and the slice that stands for it is not looked at.
-    let c = keys::composite(
-        password,
-        has_password,
-        key_file,
-        has_key_file,
-        password,
-        false,
-    );
-    let outcome = c.outcome;
-    let key = c.key;
-    match outcome {
-        Outcome::Refused(r) => return Unlocked::Refused(r),
-        Outcome::Accepted => return open_by(rt, f, key, out, memory),
+    match keys::composite(password, key_file, None) {
+        Err(r) => return Unlocked::Refused(r),
+        Ok(key) => return open_by(rt, f, key, out, memory),
     }
 }
 
@@ -182,37 +159,26 @@ fn open_as(
 pub fn unlock(
     rt: &impl Eprint,
     f: &[u8],
-    password: &[u8],
-    has_password: bool,
-    key_file: &[u8],
-    has_key_file: bool,
+    password: Option<&[u8]>,
+    key_file: Option<&[u8]>,
     out: &mut [u8],
     memory: &mut [u64],
 ) -> Unlocked
-    ensures value { result ≡ (unlocking.unlocked (keys.credential has_password password.now) (keys.credential has_key_file key_file.now) f.now (length out.old) memory.old).answer }
-    ensures out_after { out.new ≡ over (unlocking.unlocked (keys.credential has_password password.now) (keys.credential has_key_file key_file.now) f.now (length out.old) memory.old).bytes out.old }
-    ensures memory_after { memory.new ≡ (unlocking.unlocked (keys.credential has_password password.now) (keys.credential has_key_file key_file.now) f.now (length out.old) memory.old).memory }
-    ensures result_value { answers.said result ≡ answers.said (unlocking.unlocked (keys.credential has_password password.now) (keys.credential has_key_file key_file.now) f.now (length out.old) memory.old).answer }
+    ensures value { result ≡ (unlocking.unlocked (credentials.credential password.entry) (credentials.credential key_file.entry) f.now (length out.old) memory.old).answer }
+    ensures out_after { out.new ≡ over (unlocking.unlocked (credentials.credential password.entry) (credentials.credential key_file.entry) f.now (length out.old) memory.old).bytes out.old }
+    ensures memory_after { memory.new ≡ (unlocking.unlocked (credentials.credential password.entry) (credentials.credential key_file.entry) f.now (length out.old) memory.old).memory }
+    ensures result_value { answers.said result ≡ answers.said (unlocking.unlocked (credentials.credential password.entry) (credentials.credential key_file.entry) f.now (length out.old) memory.old).answer }
 {
-    if !is_within(f, true) {
+    if !keys::is_within(Some(f), PROGRAM_LIMIT) {
         return Unlocked::Refused(Refusal::TooLong);
     }
-    if !is_within(password, has_password) {
+    if !keys::is_within(password, PROGRAM_LIMIT) {
         return Unlocked::Refused(Refusal::TooLong);
     }
-    if !is_within(key_file, has_key_file) {
+    if !keys::is_within(key_file, PROGRAM_LIMIT) {
         return Unlocked::Refused(Refusal::TooLong);
     }
-    open_as(
-        rt,
-        f,
-        password,
-        has_password,
-        key_file,
-        has_key_file,
-        out,
-        memory,
-    )
+    open_as(rt, f, password, key_file, out, memory)
 }
 
 // How many words of memory the key of a vault needs: none where its header is refused.

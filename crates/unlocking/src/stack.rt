@@ -5,7 +5,6 @@ ghost use Rattle.std.specs.Prelude.{◌≡◌, leb, drop};
 ghost use Rattle.unlocking.specs.Stack as limits;
 
 use crate::input;
-use input::Input;
 use std::rt::Files;
 
 // What stands behind the first place of a word: nothing where there is none.
@@ -69,7 +68,7 @@ pub fn allows(text: &[u8], bytes: u32) -> bool
 pub fn has_room(rt: &impl Files, bytes: u32) -> bool {
     let mut text = console::buffer();
     match input::read_file(rt, b"/proc/self/limits", &mut text) {
-        Input::NotOpened(_) => return false,
-        Input::Bytes(n) => return allows(slices::part(&text, 0, n), bytes),
+        Ok(n) => allows(slices::part(&text, 0, n), bytes),
+        Err(_) => false,
     }
 }

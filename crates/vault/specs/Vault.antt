@@ -12,8 +12,7 @@ use Rattle.std.specs.Prelude.{Bool, cond, List, ℕ, ◌+◌, ◌-◌, ltb, leng
 use Rattle.slices.specs.Same.{same}
 use Rattle.refusals.specs.declared.Refusal.{Refusal}
 use Rattle.refusals.specs.declared.Refusal.TheVariants.{CutShort, HeaderHash, HeaderTag}
-use Rattle.refusals.specs.declared.Outcome.{Outcome}
-use Rattle.refusals.specs.declared.Outcome.TheVariants as outcome
+use Rattle.refusals.specs.Numbers.{Outcome}
 use Rattle.fields.specs.Fields.{bytes_at}
 use Rattle.outer_header.specs.Kdbx4Header.{header}
 use Rattle.outer_header.specs.declared.Header.{Header}
@@ -58,8 +57,8 @@ start t f = start_in t f (header f)
 
 -- a start's answer, and the state that it gives: closed where it is refused
 unfoldable pub outcome_of : Begun → Outcome
-outcome_of (start_refused r) = outcome.Refused r
-outcome_of (begun k p) = outcome.Accepted
+outcome_of (start_refused r) = Err r
+outcome_of (begun k p) = Ok tt
 
 unfoldable pub state_of : Begun → Opener
 state_of (start_refused r) = blank Closed

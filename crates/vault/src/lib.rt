@@ -8,29 +8,17 @@
 // blocks, and 17 last.
 #![tactic(auto)]
 
-ghost use Rattle.std.specs.Prelude.{◌≡◌, ◌+◌, ◌≤◌, length, Ok};
+ghost use Rattle.std.specs.Prelude.{◌≡◌, ◌++◌, ◌+◌, ◌-◌, ◌≤◌, length, replicate, Ok};
 ghost use Rattle.refusals.specs.Limits.{file_limit};
 ghost use Rattle.slices.specs.Over.{over};
 ghost use Rattle.outer_header.specs.Kdbx4Header.{header};
-ghost use Rattle.opening.specs.Steps as steps;
 ghost use Rattle.opening.specs.Whole as whole;
 ghost use Rattle.vault.specs.Vault as kdbx4;
 ghost use Rattle.vault.specs.Checked as checked;
 
-use aes::RoundKeys;
-use ciphers::Cipher;
 use opening::{Keys, Phase, Started};
 use outer_header::Header;
-use refusals::{Outcome, Refusal, Written};
-
-// The checks up to the header's tag: their outcome, and, where it is accepted, the keys and the place of the first
-// block.
-#[derive(Clone, Copy)]
-struct Checked {
-    pub outcome: Outcome,
-    pub keys: Keys,
-    pub at: usize,
-}
+use refusals::Refusal;
 
 // The bytes of a slice in an array of N, with zeros behind them.
 fn padded<const N: usize>(s: &[u8]) -> [u8; N]
@@ -72,55 +60,33 @@ fn tag_holds(f: &[u8], n: usize, base: [u8; 64]) -> bool
     slices::same(slices::part(f, n + 32, 32), &tag)
 }
 
-// A refused start has no keys.
-fn refuse(why: Refusal) -> Checked
-    ensures { result ≡ checked.checked_of (kdbx4.start_refused why) }
-{
-    Checked {
-        outcome: Outcome::Refused(why),
-        keys: Keys {
-            cipher: Cipher::Aes256,
-            key: [0u8; 32],
-            round_keys: RoundKeys { words: [0u32; 60] },
-            nonce: [0u8; 16],
-            base: [0u8; 64],
-        },
-        at: 0,
-    }
-}
-
-// The checks behind a header of n bytes: 64 bytes present, hash, tag.
-fn check_at(f: &[u8], n: usize, k: Keys) -> Checked
+// The checks behind a header of n bytes: 64 bytes present, hash, tag. They give the keys and the place of the first block.
+fn check_at(f: &[u8], n: usize, k: Keys) -> Result<(Keys, usize), Refusal>
     requires n_in_bounds { n ≤ length f.now }
     requires f_len_bound { length f.now ≤ file_limit }
     ensures { result ≡ checked.checked_of (kdbx4.start_at f.now n k) }
 {
     if f.len() - n < 64 {
-        return refuse(Refusal::CutShort(0));
+        return Err(Refusal::CutShort(0));
     }
     if hash_holds(f, n) {
-        let base = k.base;
-        if tag_holds(f, n, base) {
-            return Checked {
-                outcome: Outcome::Accepted,
-                keys: k,
-                at: n + 64,
-            };
+        if tag_holds(f, n, k.base) {
+            return Ok((k, n + 64));
         }
-        return refuse(Refusal::HeaderTag);
+        return Err(Refusal::HeaderTag);
     }
-    refuse(Refusal::HeaderHash)
+    Err(Refusal::HeaderHash)
 }
 
 // The checks up to the header's tag.
-fn check(f: &[u8], t: [u8; 32]) -> Checked
+fn check(f: &[u8], t: [u8; 32]) -> Result<(Keys, usize), Refusal>
     ensures { result ≡ checked.checked_of (kdbx4.start t f.now) }
 {
     match outer_header::read(f) {
-        Err(r) => return refuse(r),
+        Err(r) => Err(r),
         Ok(h) => {
             let k = keys_of(f, h, t);
-            return check_at(f, h.length, k);
+            check_at(f, h.length, k)
         }
     }
 }
@@ -131,31 +97,23 @@ pub fn start(f: &[u8], t: [u8; 32]) -> Started
     ensures outcome_value { result.outcome ≡ kdbx4.outcome_of (kdbx4.start t f.now) }
     ensures next_value { result.next ≡ kdbx4.state_of (kdbx4.start t f.now) }
 {
-    let c = check(f, t);
-    let outcome = c.outcome;
-    let k = c.keys;
-    match outcome {
-        Outcome::Accepted => Started {
-            outcome: Outcome::Accepted,
-            next: opener::begin(k, c.at),
+    match check(f, t) {
+        Ok((k, at)) => Started {
+            outcome: Ok(()),
+            next: opener::begin(k, at),
         },
-        Outcome::Refused(r) => Started {
-            outcome: Outcome::Refused(r),
+        Err(r) => Started {
+            outcome: Err(r),
             next: opener::blank(Phase::Closed),
         },
     }
 }
 
 // Opens a vault whole: its payload over the front of `out`, or a refusal and nothing written.
-pub fn open(f: &[u8], t: [u8; 32], out: &mut [u8]) -> Written
+pub fn open(f: &[u8], t: [u8; 32], out: &mut [u8]) -> Result<usize, Refusal>
     ensures value { result ≡ whole.written_of (kdbx4.opened_in t f.now (length out.old)) }
     ensures out_after { out.new ≡ over (whole.shown_of (kdbx4.opened_in t f.now (length out.old))) out.old }
 {
-    let c = check(f, t);
-    let outcome = c.outcome;
-    let k = c.keys;
-    match outcome {
-        Outcome::Refused(r) => return Written::Refused(r),
-        Outcome::Accepted => return open_whole::open_blocks(k, f, c.at, out),
-    }
+    let (k, at) = check(f, t)?;
+    open_whole::open_blocks(k, f, at, out)
 }

@@ -5,16 +5,16 @@ use crate::first;
 use crate::parts::Parts;
 use std::io;
 
-// The state behind what was fed.
+// The state behind what was fed, and what the start or the last feed answered.
 pub trait Digest {
-    // Feeds `part`, and answers the number of a refusal, or 0.
-    fn feed(&mut self, part: &[u8]) -> u8;
+    // Feeds `part`.
+    fn feed(&mut self, part: &[u8]);
 
-    // A row of the digest of what was fed.
-    fn row(&self, rt: &impl Print, form: &[u8], length: usize, number: u8) -> io::Result<()>;
+    // A row of the answer's number and the digest of what was fed.
+    fn row(&self, rt: &impl Print, form: &[u8], length: usize) -> io::Result<()>;
 }
 
-// The row of a message in parts (Parts), with an empty feed before each. The number is the last feed's.
+// The row of a message in parts (Parts), with an empty feed before each. The number is the last feed's, or the start's.
 pub fn in_parts<D: Digest>(
     rt: &impl Print,
     state: &mut D,
@@ -25,12 +25,11 @@ pub fn in_parts<D: Digest>(
 ) -> io::Result<()>
     requires { 0 < first }
 {
-    let mut number = 0;
     for part in Parts::of(m, first, longest) {
         state.feed(b"");
-        number = state.feed(part);
+        state.feed(part);
     }
-    state.row(rt, form, m.len(), number)
+    state.row(rt, form, m.len())
 }
 
 // The rows at the limit of a message, 512 parts of 65,536 bytes: behind 511 of them one byte more than the last, the
@@ -54,6 +53,6 @@ fn fed<D: Digest>(
     length: usize,
     part: &[u8],
 ) -> io::Result<()> {
-    let number = state.feed(part);
-    state.row(rt, form, length, number)
+    state.feed(part);
+    state.row(rt, form, length)
 }

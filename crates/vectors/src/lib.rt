@@ -8,7 +8,7 @@
 // that each function is safe and ends: the output is compared.
 #![tactic(auto)]
 
-ghost use Rattle.std.specs.Prelude.{◌≡◌, ◌<◌, min, length, take, drop};
+ghost use Rattle.std.specs.Prelude.{◌≡◌, ◌<◌, length, take, drop};
 
 use std::io;
 
@@ -73,13 +73,6 @@ pub fn after(m: &[u8], at: usize) -> &[u8]
     ensures { result.now ≡ drop at m.now }
 {
     m.get(at..).unwrap_or(&[])
-}
-
-// The lesser of two numbers.
-pub fn least(a: usize, b: usize) -> usize
-    ensures { result ≡ min a b }
-{
-    a.min(b)
 }
 
 // A row of the output.

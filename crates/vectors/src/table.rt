@@ -2,18 +2,18 @@
 //
 // A field is text as it stands, a number in decimal, or bytes: `=` and their lower-case hexadecimal digits, or `-`
 // where they are absent, so that no bytes and absent bytes differ.
-ghost use Rattle.std.specs.Prelude.{◌≤◌, ◌<◌, min, length};
+ghost use Rattle.std.specs.Prelude.{◌<◌, length};
 ghost use Rattle.std.specs.Iterator.{at_most};
 
 use crate::after;
 use std::alloc::{AllocError, Global};
 use std::io;
-use std::io::Read;
 
-// The table on standard input.
-pub fn read(rt: &(impl Input + AllocGlobal)) -> io::Result<Vec<u8>> {
-    let mut table = Vec::new(rt.alloc());
-    rt.reader().read_to_end(&mut table)?;
+// The table on standard input, up to so many bytes, or to where a read fails.
+pub fn read(rt: &(impl Input + AllocGlobal), most: usize) -> io::Result<Vec<u8>> {
+    let mut table = vec![in rt.alloc(); 0; most]?;
+    let n = console::read_input(rt, &mut table);
+    table.truncate(n);
     Ok(table)
 }
 
@@ -44,17 +44,6 @@ impl<'a> Iterator for Lines<'a> {
     }
 }
 
-// The place of the first `b` in `s` at `from` or behind, or the length of `s` where there is none.
-pub fn find(s: &[u8], from: usize, b: u8) -> usize
-    ensures upper_bound { result ≤ length s.now }
-    ensures lower_bound { min from (length s.now) ≤ result }
-{
-    after(s, from)
-        .iter()
-        .position(|x| *x == b)
-        .map_or(s.len(), |i| from + i)
-}
-
 // Field k of a line, empty where the line has fewer.
 pub fn field(line: &[u8], k: usize) -> &[u8] {
     line.split(|b| *b == b' ').nth(k).unwrap_or(&[])
@@ -75,11 +64,12 @@ pub fn bytes(field: &[u8], out: &mut [u8]) -> usize {
     n
 }
 
-// All of a field's bytes, none where they are absent.
-pub fn decoded(alloc: Global, field: &[u8]) -> Result<Vec<u8>, AllocError> {
+// A field's bytes, so many at most.
+pub fn decoded(alloc: Global, field: &[u8], most: usize) -> Result<Vec<u8>, AllocError> {
     after(field, 1)
         .chunks_exact(2)
         .map(|pair| 16 * digit(pair[0]) + digit(pair[1]))
+        .take(most)
         .collect(alloc)
 }
 

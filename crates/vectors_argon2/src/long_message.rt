@@ -33,6 +33,6 @@ fn within(rt: &impl Print, long: &[u8], memory: &mut [u64]) -> io::Result<()> {
         memory,
         &mut out,
     );
-    vectors::row(rt, b"hash", b"long-message", 32, o.number(), &out)?;
+    vectors::row(rt, b"hash", b"long-message", 32, refusals::number(o), &out)?;
     crate::lent::row(rt, b"long-message", memory)
 }

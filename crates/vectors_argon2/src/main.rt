@@ -16,7 +16,7 @@ mod long_message;
 mod runs;
 
 fn main(rt: HostRuntime) -> io::Result<()> {
-    let cases = table::read(&rt)?;
+    let cases = table::read(&rt, 131_072)?;
     // the most words that are lent: 1,200 blocks
     let mut memory = vec![in rt.alloc(); 0u64; 153_600]?;
     for line in Lines::of(&cases) {

@@ -3,6 +3,9 @@ use argon2::Kind;
 use std::io;
 use vectors::table::{array, decoded, field, number};
 
+// The most bytes of a password, salt, secret, associated data or tag.
+const MOST: usize = 128;
+
 // Both rows of a line: the first words of `memory` are lent, as many as it says.
 pub fn rows(rt: &(impl Print + AllocGlobal), line: &[u8], memory: &mut [u64]) -> io::Result<()> {
     let n = number(field(line, 10)) as usize;
@@ -54,7 +57,7 @@ fn transform(
     figures: Figures,
     memory: &mut [u64],
 ) -> io::Result<()> {
-    let salt = decoded(rt.alloc(), field(line, 4))?;
+    let salt = decoded(rt.alloc(), field(line, 4), MOST)?;
     let t = argon2::transform(
         figures.kind,
         array(field(line, 3)),
@@ -69,23 +72,37 @@ fn transform(
         b"transform",
         field(line, 0),
         32,
-        t.outcome.number(),
+        refusals::number(t.outcome),
         &t.key,
     )
 }
 
-// The tag of a line's inputs, of as many bytes as it says.
+// The tag of a line's inputs, of as many bytes as it says, MOST at most.
 fn hash(
     rt: &(impl Print + AllocGlobal),
     line: &[u8],
     figures: Figures,
     memory: &mut [u64],
 ) -> io::Result<()> {
-    let password = decoded(rt.alloc(), field(line, 3))?;
-    let salt = decoded(rt.alloc(), field(line, 4))?;
-    let secret = decoded(rt.alloc(), field(line, 5))?;
-    let associated = decoded(rt.alloc(), field(line, 6))?;
-    let mut tag = vec![in rt.alloc(); 0x5au8; number(field(line, 11)) as usize]?;
+    let mut space = [0x5au8; MOST];
+    match space.get_mut(..number(field(line, 11)) as usize) {
+        Some(tag) => hash_to(rt, line, figures, memory, tag),
+        None => Ok(()),
+    }
+}
+
+// The tag of a line's inputs, over `tag`.
+fn hash_to(
+    rt: &(impl Print + AllocGlobal),
+    line: &[u8],
+    figures: Figures,
+    memory: &mut [u64],
+    tag: &mut [u8],
+) -> io::Result<()> {
+    let password = decoded(rt.alloc(), field(line, 3), MOST)?;
+    let salt = decoded(rt.alloc(), field(line, 4), MOST)?;
+    let secret = decoded(rt.alloc(), field(line, 5), MOST)?;
+    let associated = decoded(rt.alloc(), field(line, 6), MOST)?;
     let o = argon2::hash(
         figures.kind,
         &password,
@@ -96,7 +113,14 @@ fn hash(
         figures.memory_bytes,
         figures.lanes,
         memory,
-        &mut tag,
+        tag,
     );
-    vectors::row(rt, b"hash", field(line, 0), tag.len(), o.number(), &tag)
+    vectors::row(
+        rt,
+        b"hash",
+        field(line, 0),
+        tag.len(),
+        refusals::number(o),
+        tag,
+    )
 }

@@ -38,5 +38,5 @@ fn long(rt: &impl Print, m: &[u8], t: usize) -> io::Result<()> {
 // Fills `out`, and prints it.
 fn fill(rt: &impl Print, m: &[u8], out: &mut [u8]) -> io::Result<()> {
     let o = argon2_hash::fill(m, out);
-    vectors::row(rt, b"argon2-h", b"fill", m.len(), o.number(), out)
+    vectors::row(rt, b"argon2-h", b"fill", m.len(), refusals::number(o), out)
 }

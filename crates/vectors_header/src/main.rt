@@ -7,13 +7,15 @@
 // a reader of its own.
 #![tactic(auto)]
 
-use refusals::Written;
 use std::io;
 use vectors::first;
 use vectors::table::{self, Lines, decoded, field, is_given, number};
 
+// One byte more than the longest input.
+const LONGEST: usize = 65_537;
+
 fn main(rt: HostRuntime) -> io::Result<()> {
-    let cases = table::read(&rt)?;
+    let cases = table::read(&rt, 262_144)?;
     for line in Lines::of(&cases) {
         answer(&rt, line)?;
     }
@@ -34,8 +36,8 @@ fn answer(rt: &(impl Print + AllocGlobal), line: &[u8]) -> io::Result<()> {
 // What is told of a name in a line's dictionary: `found`, the value's type, and the stretch that is shown; or `none`,
 // and the place of a refusal. The number stands behind the type or place.
 fn looked(rt: &(impl Print + AllocGlobal), line: &[u8]) -> io::Result<()> {
-    let items = decoded(rt.alloc(), field(line, 1))?;
-    let name = decoded(rt.alloc(), field(line, 3))?;
+    let items = decoded(rt.alloc(), field(line, 1), 4_096)?;
+    let name = decoded(rt.alloc(), field(line, 3), 32)?;
     let mut number: u8 = 255;
     let mut place: usize = 255;
     let mut found = true;
@@ -57,11 +59,11 @@ fn looked(rt: &(impl Print + AllocGlobal), line: &[u8]) -> io::Result<()> {
 
 // The listing of a line's file, with room for any text (crate listing, Laws.Text, length-text).
 fn listed(rt: &(impl Print + AllocGlobal), line: &[u8]) -> io::Result<()> {
-    let mut file = decoded(rt.alloc(), field(line, 1))?;
-    file.resize(number(field(line, 2)) as usize, 0)?;
+    let mut file = decoded(rt.alloc(), field(line, 1), LONGEST)?;
+    file.resize((number(field(line, 2)) as usize).min(LONGEST), 0)?;
     let mut text = vec![in rt.alloc(); 0u8; 196_608]?;
     match listing::list(&file, &mut text) {
-        Written::Wrote(n) => rt.write_all(first(&text, n)),
-        Written::Refused(_) => rt.write_all(b"no room\n"),
+        Ok(n) => rt.write_all(first(&text, n)),
+        Err(_) => rt.write_all(b"no room\n"),
     }
 }

@@ -7,30 +7,36 @@
 // with OpenSSL.
 #![tactic(auto)]
 
-use hmac::Hmac;
+use hmac::{Hmac, Keyed};
 use std::io;
 use vectors::digest::{Digest, at_limit, in_parts};
 use vectors::{after, first};
 
-// The state of HMAC-SHA-256 under a key.
+// The state of HMAC-SHA-256 under a key, behind an answer.
 #[derive(Drop)]
-struct HmacRows(Hmac);
+struct HmacRows(Keyed);
 
 impl HmacRows {
     fn start(key: &[u8]) -> Self {
-        HmacRows(Hmac::start(key).next)
+        HmacRows(Hmac::start(key))
     }
 }
 
 impl Digest for HmacRows {
-    fn feed(&mut self, part: &[u8]) -> u8 {
-        let fed = self.0.feed(part);
-        self.0 = fed.next;
-        fed.outcome.number()
+    fn feed(&mut self, part: &[u8]) {
+        self.0 = self.0.next.feed(part);
     }
 
-    fn row(&self, rt: &impl Print, form: &[u8], length: usize, number: u8) -> io::Result<()> {
-        vectors::row(rt, b"hmac-sha256", form, length, number, &self.0.finish())
+    fn row(&self, rt: &impl Print, form: &[u8], length: usize) -> io::Result<()> {
+        let number = refusals::number(self.0.outcome);
+        vectors::row(
+            rt,
+            b"hmac-sha256",
+            form,
+            length,
+            number,
+            &self.0.next.finish(),
+        )
     }
 }
 
@@ -119,7 +125,7 @@ fn whole(rt: &impl Print, form: &[u8], key: &[u8], m: &[u8], size: usize) -> io:
         b"hmac-sha256",
         form,
         m.len(),
-        t.outcome.number(),
+        refusals::number(t.outcome),
         first(&t.tag, size),
     )
 }

@@ -1,6 +1,6 @@
 // The rows of a payload that is read.
 use inner_header::Inner;
-use refusals::Written;
+use refusals::Refusal;
 use std::io;
 use vectors::table::field;
 
@@ -46,11 +46,9 @@ fn attachment(rt: &impl Print, name: &[u8], payload: &[u8], index: usize) -> io:
     match inner_header::find_attachment(payload, index) {
         Err(r) => vectors::row(rt, b"attachment", name, r.place(), r.number(), b""),
         Ok((flags, p)) => {
-            let byte = [flags];
-            vectors::row(rt, b"flags", name, index, 0, &byte)?;
-            let d = sha256::hash(slices::part(payload, p.start, p.length));
-            let digest = d.digest;
-            vectors::row(rt, b"attachment", name, p.start, 0, &digest)
+            vectors::row(rt, b"flags", name, index, 0, &[flags])?;
+            let content = slices::part(payload, p.start, p.length);
+            hashed(rt, b"attachment", name, p.start, content)
         }
     }
 }
@@ -66,8 +64,8 @@ fn again(
 ) -> io::Result<()> {
     let mut out = console::large_buffer();
     match inner_header::writer::write(algorithm, key, run, document, &mut out) {
-        Written::Refused(r) => vectors::row(rt, b"written", name, r.place(), r.number(), b""),
-        Written::Wrote(n) => hashed(rt, b"written", name, n, vectors::first(&out, n)),
+        Err(r) => vectors::row(rt, b"written", name, r.place(), r.number(), b""),
+        Ok(n) => hashed(rt, b"written", name, n, vectors::first(&out, n)),
     }
 }
 

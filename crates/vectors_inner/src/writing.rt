@@ -1,5 +1,5 @@
 // The rows of a payload that is written.
-use refusals::Written;
+use refusals::Refusal;
 use std::io;
 use vectors::table::{bytes, field, number};
 
@@ -12,7 +12,7 @@ pub fn line(rt: &impl Print, line: &[u8]) -> io::Result<()> {
     let r = bytes(field(line, 4), &mut run);
     let d = bytes(field(line, 5), &mut document);
     let mut out = [0xEEu8; 64];
-    let room = (number(field(line, 6)) as usize).min(64);
+    let room = (number(field(line, 6)) % 65) as usize;
     let w = inner_header::writer::write(
         (number(field(line, 2)) % 0x1_0000_0000) as u32,
         vectors::first(&key, k),
@@ -37,9 +37,9 @@ pub fn row(
 }
 
 // The length written, or the refusal's place and number; and the whole output.
-fn show(rt: &impl Print, name: &[u8], w: Written, out: &[u8; 64]) -> io::Result<()> {
+fn show(rt: &impl Print, name: &[u8], w: Result<usize, Refusal>, out: &[u8; 64]) -> io::Result<()> {
     match w {
-        Written::Refused(r) => vectors::row(rt, b"write", name, r.place(), r.number(), out),
-        Written::Wrote(n) => vectors::row(rt, b"write", name, n, 0, out),
+        Err(r) => vectors::row(rt, b"write", name, r.place(), r.number(), out),
+        Ok(n) => vectors::row(rt, b"write", name, n, 0, out),
     }
 }

@@ -61,7 +61,7 @@ fn start_of(rt: &impl Print, a: Algorithm, key: &[u8]) -> io::Result<InnerStream
         a.name(),
         b"start",
         key.len(),
-        started.outcome.number(),
+        refusals::number(started.outcome),
         b"",
     )?;
     Ok(started.next)

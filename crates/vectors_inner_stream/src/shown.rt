@@ -1,6 +1,6 @@
 // What both kinds of calls share: the pattern, and the row of an answer.
 use crate::algorithm::Algorithm;
-use refusals::Written;
+use refusals::Refusal;
 use std::io;
 
 // The pattern's first bytes.
@@ -16,11 +16,11 @@ pub fn show(
     a: Algorithm,
     form: &[u8],
     length: usize,
-    w: Written,
+    w: Result<usize, Refusal>,
     out: &[u8],
 ) -> io::Result<()> {
     match w {
-        Written::Wrote(n) => vectors::row(rt, a.name(), form, n, 0, out),
-        Written::Refused(r) => vectors::row(rt, a.name(), form, length, r.number(), out),
+        Ok(n) => vectors::row(rt, a.name(), form, n, 0, out),
+        Err(r) => vectors::row(rt, a.name(), form, length, r.number(), out),
     }
 }

@@ -8,15 +8,14 @@
 #![tactic(auto)]
 
 use std::io;
-use vectors::table::Lines;
+use vectors::table::{self, Lines};
 
 mod cases;
 mod transformed;
 
 fn main(rt: HostRuntime) -> io::Result<()> {
-    let mut space = console::large_buffer();
-    let n = console::read_input(&rt, &mut space);
-    for line in Lines::of(&space[..n]) {
+    let cases = table::read(&rt, 65_536)?;
+    for line in Lines::of(&cases) {
         cases::vault(&rt, line)?;
     }
     cases::steps(&rt)?;

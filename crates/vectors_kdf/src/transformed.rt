@@ -17,7 +17,7 @@ pub fn start(
         b"start",
         form,
         rounds as usize,
-        s.outcome.number(),
+        refusals::number(s.outcome),
         &halves,
     )?;
     Ok(s.next)
@@ -45,7 +45,7 @@ pub fn finish(rt: &impl Print, form: &[u8], t: Transformation) -> io::Result<()>
         b"transformed",
         form,
         t.done as usize,
-        f.outcome.number(),
+        refusals::number(f.outcome),
         &f.key,
     )
 }

@@ -9,15 +9,14 @@
 #![tactic(auto)]
 
 use std::io;
-use vectors::table::Lines;
+use vectors::table::{self, Lines};
 
 mod credentials;
 mod vault;
 
 fn main(rt: HostRuntime) -> io::Result<()> {
-    let mut space = console::large_buffer();
-    let n = console::read_input(&rt, &mut space);
-    for line in Lines::of(&space[..n]) {
+    let cases = table::read(&rt, 65_536)?;
+    for line in Lines::of(&cases) {
         vault::keys_of(&rt, line)?;
     }
     credentials::kinds(&rt)?;

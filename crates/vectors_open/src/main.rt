@@ -10,14 +10,12 @@
 use refusals::Refusal;
 use std::io;
 use std::rt::Files;
-use unlocking::input::Input;
 use unlocking::{Unlocked, input, report};
-use vectors::table::{Lines, bytes, field, is_given};
+use vectors::table::{self, Lines, bytes, field, is_given};
 
 fn main(rt: HostRuntime) -> io::Result<()> {
-    let mut space = console::large_buffer();
-    let n = console::read_input(&rt, &mut space);
-    for line in Lines::of(&space[..n]) {
+    let cases = table::read(&rt, 65_536)?;
+    for line in Lines::of(&cases) {
         case(&rt, line)?;
     }
     every_refusal(&rt)
@@ -27,8 +25,8 @@ fn main(rt: HostRuntime) -> io::Result<()> {
 fn case(rt: &(impl Files + Print + Eprint + Alloc), line: &[u8]) -> io::Result<()> {
     let mut space = input::room();
     match input::read_file(rt, field(line, 1), &mut space) {
-        Input::NotOpened(_) => rt.write_all(b"not there\n"),
-        Input::Bytes(n) => open_file(rt, line, slices::part(&space, 0, n)),
+        Ok(n) => open_file(rt, line, slices::part(&space, 0, n)),
+        Err(_) => rt.write_all(b"not there\n"),
     }
 }
 
@@ -44,10 +42,8 @@ fn open_file(rt: &(impl Print + Eprint + Alloc), line: &[u8], file: &[u8]) -> io
     match unlocking::unlock(
         rt,
         file,
-        slices::part(&password, 0, m),
-        is_given(field(line, 2)),
-        slices::part(&key_file, 0, k),
-        is_given(field(line, 3)),
+        is_given(field(line, 2)).then_some(slices::part(&password, 0, m)),
+        is_given(field(line, 3)).then_some(slices::part(&key_file, 0, k)),
         &mut out,
         &mut memory,
     ) {

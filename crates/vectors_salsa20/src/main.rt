@@ -10,12 +10,11 @@
 
 use salsa20::Salsa20;
 use std::io;
-use vectors::table::{Lines, array, bytes, field, number};
+use vectors::table::{self, Lines, array, bytes, field, number};
 
 fn main(rt: HostRuntime) -> io::Result<()> {
-    let mut space = console::large_buffer();
-    let n = console::read_input(&rt, &mut space);
-    for line in Lines::of(&space[..n]) {
+    let cases = table::read(&rt, 65_536)?;
+    for line in Lines::of(&cases) {
         stretch(&rt, line)?;
     }
     Ok(())

@@ -1,33 +1,42 @@
 // The rows of SHA-256.
 use crate::sha2::Sha2;
-use sha256::Sha256;
+use sha256::{Fed, Sha256};
 use std::io;
 use vectors::digest::Digest;
 
 // The state of SHA-256.
 #[derive(Drop)]
-pub struct Sha256Rows(Sha256);
+pub struct Sha256Rows(Fed);
 
 impl Digest for Sha256Rows {
-    fn feed(&mut self, part: &[u8]) -> u8 {
-        let fed = self.0.feed(part);
-        self.0 = fed.next;
-        fed.outcome.number()
+    fn feed(&mut self, part: &[u8]) {
+        self.0 = self.0.next.feed(part);
     }
 
-    fn row(&self, rt: &impl Print, form: &[u8], length: usize, number: u8) -> io::Result<()> {
-        vectors::row(rt, b"sha256", form, length, number, &self.0.finish())
+    fn row(&self, rt: &impl Print, form: &[u8], length: usize) -> io::Result<()> {
+        let number = refusals::number(self.0.outcome);
+        vectors::row(rt, b"sha256", form, length, number, &self.0.next.finish())
     }
 }
 
 impl Sha2 for Sha256Rows {
     fn start() -> Self {
-        Sha256Rows(Sha256::start())
+        Sha256Rows(Fed {
+            outcome: Ok(()),
+            next: Sha256::start(),
+        })
     }
 
     fn whole(rt: &impl Print, form: &[u8], m: &[u8]) -> io::Result<()> {
         let h = sha256::hash(m);
-        vectors::row(rt, b"sha256", form, m.len(), h.outcome.number(), &h.digest)
+        vectors::row(
+            rt,
+            b"sha256",
+            form,
+            m.len(),
+            refusals::number(h.outcome),
+            &h.digest,
+        )
     }
 }
 

@@ -21,16 +21,15 @@
 #![tactic(auto)]
 
 use std::io;
-use vectors::table::{Lines, field};
+use vectors::table::{self, Lines, field};
 
 mod large;
 mod steps;
 mod whole;
 
 fn main(rt: HostRuntime) -> io::Result<()> {
-    let mut space = vectors::million(0);
-    let n = console::read_input(&rt, &mut space);
-    for line in Lines::of(&space[..n]) {
+    let cases = table::read(&rt, 1_000_000)?;
+    for line in Lines::of(&cases) {
         case(&rt, line)?;
     }
     Ok(())

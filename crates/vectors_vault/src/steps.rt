@@ -1,7 +1,7 @@
 // The rows of a vault that is opened block by block.
 use crate::whole::ROOM;
 use opening::{Opener, Phase};
-use refusals::{Outcome, Written};
+use refusals::Refusal;
 use sha256::Sha256;
 use std::io;
 
@@ -41,11 +41,18 @@ pub fn rows(rt: &impl Print, name: &[u8], f: &[u8], t: [u8; 32], given: &[u8]) -
 pub fn started(rt: &impl Print, name: &[u8], f: &[u8], t: [u8; 32]) -> io::Result<Opener> {
     let s = vault::start(f, t);
     let figure = match s.outcome {
-        Outcome::Accepted => s.next.at,
-        Outcome::Refused(r) => r.place(),
+        Ok(()) => s.next.at,
+        Err(r) => r.place(),
     };
     let base = s.next.keys.base;
-    vectors::row(rt, b"start", name, figure, s.outcome.number(), &base)?;
+    vectors::row(
+        rt,
+        b"start",
+        name,
+        figure,
+        refusals::number(s.outcome),
+        &base,
+    )?;
     Ok(s.next)
 }
 
@@ -61,10 +68,10 @@ fn turn(r: Run, f: &[u8]) -> Run {
     let size = words::le::u32_at(f, o.at.saturating_add(32)) as usize;
     let room = room_of(r.calls % 8, size % 60_000);
     let s = opener::step(o, f, &mut out[..room.min(ROOM)]);
-    let n = s.answer.count();
+    let n = refusals::count(s.answer);
     Run {
         calls: r.calls.saturating_add(1),
-        number: s.answer.number(),
+        number: refusals::number(s.answer),
         total: r.total.saturating_add(n),
         handed: fed(r.handed, vectors::first(&out, n)),
         told: tell(
@@ -82,9 +89,9 @@ fn fed(h: Sha256, m: &[u8]) -> Sha256 {
 }
 
 // A step's answer, fed: the number, the count as 8 bytes, and the lent bytes with the 16 behind them.
-fn tell(told: Sha256, a: Written, lent: &[u8]) -> Sha256 {
-    let number = fed(told, &[a.number()]);
-    let count = fed(number, &(a.count() as u64).to_le_bytes());
+fn tell(told: Sha256, a: Result<usize, Refusal>, lent: &[u8]) -> Sha256 {
+    let number = fed(told, &[refusals::number(a)]);
+    let count = fed(number, &(refusals::count(a) as u64).to_le_bytes());
     fed(count, lent)
 }
 
@@ -119,8 +126,8 @@ fn after(rt: &impl Print, name: &[u8], o: Opener, f: &[u8]) -> io::Result<()> {
         rt,
         b"after",
         name,
-        s.answer.count(),
-        s.answer.number(),
+        refusals::count(s.answer),
+        refusals::number(s.answer),
         &digest,
     )
 }

@@ -1,5 +1,5 @@
 // The rows of a vault that is opened whole.
-use refusals::Written;
+use refusals::Refusal;
 use std::io;
 
 // Room for any payload of a line.
@@ -41,15 +41,21 @@ pub fn open_in(
     let lent = room.min(out.len());
     let w = vault::open(f, t, &mut out[..lent]);
     show(rt, kind, name, w, out)?;
-    Ok(w.count())
+    Ok(refusals::count(w))
 }
 
 // The row of an answer: its count, with the bytes at the front of `out` that it counts, or its refusal's place.
-pub fn show(rt: &impl Print, kind: &[u8], name: &[u8], w: Written, out: &[u8]) -> io::Result<()> {
+pub fn show(
+    rt: &impl Print,
+    kind: &[u8],
+    name: &[u8],
+    w: Result<usize, Refusal>,
+    out: &[u8],
+) -> io::Result<()> {
     let figure = match w {
-        Written::Wrote(n) => n,
-        Written::Refused(r) => r.place(),
+        Ok(n) => n,
+        Err(r) => r.place(),
     };
-    let handed = sha256::hash(vectors::first(out, w.count())).digest;
-    vectors::row(rt, kind, name, figure, w.number(), &handed)
+    let handed = sha256::hash(vectors::first(out, refusals::count(w))).digest;
+    vectors::row(rt, kind, name, figure, refusals::number(w), &handed)
 }

@@ -11,27 +11,17 @@
 // tools/vectors_writer.py writes stdin and stdout, by a writer of its own.
 #![tactic(auto)]
 
-ghost use Rattle.std.specs.Prelude.{◌≡◌, length};
-
 use std::io;
-use vectors::table::Lines;
+use vectors::table::{self, Lines};
 
 mod writing;
 
 fn main(rt: HostRuntime) -> io::Result<()> {
-    let mut space = table();
-    let n = console::read_input(&rt, &mut space);
+    let cases = table::read(&rt, 262_144)?;
     let mut pattern = vec![in rt.alloc(); 0; 4_194_305]?;
     vectors::pattern(&mut pattern);
-    for line in Lines::of(&space[..n]) {
+    for line in Lines::of(&cases) {
         writing::line(&rt, line, &pattern)?;
     }
     Ok(())
-}
-
-// Room for all lines.
-fn table() -> [u8; 262_144]
-    ensures { 262144 ≡ length result }
-{
-    [0; 262_144]
 }

@@ -1,15 +1,14 @@
 // The rows of a vault that is written.
 use kdf_dictionary::writer::Figures;
-use refusals::Written;
-use std::alloc::Global;
+use refusals::Refusal;
 use std::io;
-use vectors::table::{array, field, is_given, number};
+use vectors::table::{array, decoded, field, is_given, number};
 
 // The rows of a line, whose payload is given or by rule.
 pub fn line(rt: &(impl Print + AllocGlobal), line: &[u8], pattern: &[u8]) -> io::Result<()> {
     let text = field(line, 12);
     if is_given(text) {
-        return write(rt, line, &bytes(rt.alloc(), text)?);
+        return write(rt, line, &decoded(rt.alloc(), text, 65_536)?);
     }
     write(rt, line, vectors::first(pattern, number(text) as usize))
 }
@@ -17,11 +16,11 @@ pub fn line(rt: &(impl Print + AllocGlobal), line: &[u8], pattern: &[u8]) -> io:
 // The rows of a line and its payload: written to an output of which the line's room is lent.
 fn write(rt: &(impl Print + AllocGlobal), line: &[u8], payload: &[u8]) -> io::Result<()> {
     let alloc = rt.alloc();
-    let cipher = bytes(alloc, field(line, 2))?;
-    let seed = bytes(alloc, field(line, 3))?;
-    let nonce = bytes(alloc, field(line, 4))?;
-    let salt = bytes(alloc, field(line, 6))?;
-    let custom = bytes(alloc, field(line, 10))?;
+    let cipher = decoded(alloc, field(line, 2), 64)?;
+    let seed = decoded(alloc, field(line, 3), 64)?;
+    let nonce = decoded(alloc, field(line, 4), 64)?;
+    let salt = decoded(alloc, field(line, 6), 128)?;
+    let custom = decoded(alloc, field(line, 10), 256)?;
     let room = number(field(line, 13)) as usize;
     let mut out = vec![in alloc; 0xEE; output_size(room)]?;
     let lent = room.min(out.len());
@@ -38,13 +37,6 @@ fn write(rt: &(impl Print + AllocGlobal), line: &[u8], payload: &[u8]) -> io::Re
         &mut out[..lent],
     );
     show(rt, field(line, 0), w, &out)
-}
-
-// A field's bytes.
-fn bytes(alloc: Global, field: &[u8]) -> io::Result<Vec<u8>> {
-    let mut out = vec![in alloc; 0; field.len().saturating_sub(1) / 2]?;
-    vectors::table::bytes(field, &mut out);
-    Ok(out)
 }
 
 // The figures of a line's KDF.
@@ -73,13 +65,13 @@ fn output_size(room: usize) -> usize {
 }
 
 // The rows of an answer and the whole output.
-fn show(rt: &impl Print, name: &[u8], w: Written, out: &[u8]) -> io::Result<()> {
+fn show(rt: &impl Print, name: &[u8], w: Result<usize, Refusal>, out: &[u8]) -> io::Result<()> {
     match w {
-        Written::Refused(r) => {
+        Err(r) => {
             vectors::row(rt, b"written", name, 0, r.number(), b"")?;
             hashed(rt, b"behind", name, out)
         }
-        Written::Wrote(n) => {
+        Ok(n) => {
             let file = vectors::first(out, n);
             hashed(rt, b"written", name, file)?;
             hashed(rt, b"behind", name, vectors::after(out, n))?;

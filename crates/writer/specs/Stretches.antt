@@ -11,10 +11,9 @@
 -- A stretch stands behind the ciphertext piece v (at first the nonce), its first byte at position p of the text.
 -- Not here: the file (Written).
 -- Assumes nothing.
-use Rattle.std.specs.Prelude.{◌≡◌, List, [], ◌++◌, ℕ, ◌+◌, ◌≤◌, length}
+use Rattle.std.specs.Prelude.{◌≡◌, List, [], ◌++◌, ℕ, ◌+◌, ◌≤◌, length, Ok, Err}
 use Rattle.slices.specs.Over.{over}
-use Rattle.refusals.specs.declared.Written.{Written}
-use Rattle.refusals.specs.declared.Written.TheVariants.{Wrote, Refused}
+use Rattle.refusals.specs.Numbers.{Written}
 use Rattle.refusals.specs.Limits.{written_block}
 use Rattle.cbc.specs.Sp80038a.{previous}
 use Rattle.aes_cbc.specs.Aes256Cbc as aes256_cbc
@@ -82,5 +81,5 @@ pub record Sized (c : Cipher) (s n salt : List ℕ) : Type 0 where
   pub salt_le : length salt ≤ 64
 
 unfoldable pub bytes_of : Written → List ℕ → List ℕ
-bytes_of (Refused r) f = []
-bytes_of (Wrote n) f = f
+bytes_of (Err r) f = []
+bytes_of (Ok n) f = f

@@ -13,8 +13,7 @@
 -- Assumes nothing.
 use Rattle.std.specs.Prelude.{cond, List, [], ◌++◌, ℕ, leb, ltb, length, Result, Ok, Err}
 use Rattle.refusals.specs.declared.Refusal.TheVariants.{TooLong, NoRoom}
-use Rattle.refusals.specs.declared.Written.{Written}
-use Rattle.refusals.specs.declared.Written.TheVariants as written
+use Rattle.refusals.specs.Numbers.{Written}
 use Rattle.refusals.specs.Limits.{file_limit, payload_limit, written_block}
 use Rattle.aes_cbc.specs.Aes256Cbc as aes256_cbc
 use Rattle.pkcs7.specs.Pkcs7.{pad}
@@ -90,11 +89,11 @@ sizes = record { payload = payload_limit; file = file_limit; block = written_blo
 unfoldable pub settled : Sizes → ℕ → ℕ → ℕ → Written
 settled s b f n =
     cond (leb b s.payload)
-    (cond (leb f s.file) (cond (ltb n f) (written.Refused NoRoom) (written.Wrote f)) (written.Refused TooLong))
-    (written.Refused TooLong)
+    (cond (leb f s.file) (cond (ltb n f) (Err NoRoom) (Ok f)) (Err TooLong))
+    (Err TooLong)
 
 unfoldable pub writing_by : Sizes → Result Cipher Refusal → Figures → List ℕ → List ℕ → ℕ → Written
-writing_by s (Err r) g t b n = written.Refused r
+writing_by s (Err r) g t b n = Err r
 writing_by s (Ok c) g t b n = settled s (length b) (length (file_cut s.block g c t b)) n
 
 unfoldable pub checked_of : Figures → Result Cipher Refusal
@@ -110,8 +109,8 @@ writing g t b n = writing_with sizes g t b n
 -- the bytes that it writes: none where it is refused
 unfoldable pub shown_by : ℕ → Result Cipher Refusal → Written → Figures → List ℕ → List ℕ → List ℕ
 shown_by z (Err r) w g t b = []
-shown_by z (Ok c) (written.Refused r) g t b = []
-shown_by z (Ok c) (written.Wrote n) g t b = file_cut z g c t b
+shown_by z (Ok c) (Err r) g t b = []
+shown_by z (Ok c) (Ok n) g t b = file_cut z g c t b
 
 unfoldable pub shown_with : Sizes → Figures → List ℕ → List ℕ → ℕ → List ℕ
 shown_with s g t b n = shown_by s.block (checked_of g) (writing_with s g t b n) g t b

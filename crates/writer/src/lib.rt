@@ -20,7 +20,7 @@ ghost use Rattle.writer.specs.Stretches as stretches;
 use ciphers::Cipher;
 use kdf_dictionary::writer::Figures;
 use opening::Keys;
-use refusals::{Refusal, Written};
+use refusals::Refusal;
 
 mod blocks;
 
@@ -140,7 +140,7 @@ fn write_checked(
     t: [u8; 32],
     payload: &[u8],
     out: &mut [u8],
-) -> Written
+) -> Result<usize, Refusal>
     requires { stretches.Sized c seed.now nonce.now salt.now }
     ensures value { result ≡ kdbx4.settled kdbx4.sizes (length payload.now) (length (stretches.file_of minor c seed.now nonce.now figures salt.now custom.now t payload.now)) (length out.old) }
     ensures out_after { out.new ≡ over (stretches.bytes_of result (stretches.file_of minor c seed.now nonce.now figures salt.now custom.now t payload.now)) out.old }
@@ -150,16 +150,16 @@ fn write_checked(
         let f = file_len(c, figures, salt, custom, n);
         if refusals::limits::file_fits(f) {
             if out.len() < f {
-                return Written::Refused(Refusal::NoRoom);
+                return Err(Refusal::NoRoom);
             }
             write_file(
                 minor, c, seed, nonce, figures, salt, custom, t, payload, out,
             );
-            return Written::Wrote(f);
+            return Ok(f);
         }
-        return Written::Refused(Refusal::TooLong);
+        return Err(Refusal::TooLong);
     }
-    Written::Refused(Refusal::TooLong)
+    Err(Refusal::TooLong)
 }
 
 // Writes the vault of minor version, cipher's identifier, master seed, nonce, the KDF's figures, its seed or salt,
@@ -175,12 +175,12 @@ pub fn write(
     t: [u8; 32],
     payload: &[u8],
     out: &mut [u8],
-) -> Written
+) -> Result<usize, Refusal>
     ensures value { result ≡ kdbx4.writing (kdbx4.figures minor cipher.now seed.now nonce.now figures salt.now custom.now) t payload.now (length out.old) }
     ensures out_after { out.new ≡ over (kdbx4.shown (kdbx4.figures minor cipher.now seed.now nonce.now figures salt.now custom.now) t payload.now (length out.old)) out.old }
 {
     match header_writer::check(minor, cipher, seed, nonce, figures, salt, custom) {
-        Err(r) => return Written::Refused(r),
+        Err(r) => return Err(r),
         Ok(c) => return write_checked(
             minor, c, seed, nonce, figures, salt, custom, t, payload, out,
         ),

@@ -7,6 +7,7 @@
 --   left_is, shown_is                             the used part lent, cleared and given back; the tag
 --   transformed_is                                a vault's answer
 -- Assumes nothing.
+use Rattle.std.specs.Prelude.{Ok, Err}
 use mathlib.Core.Path.{◌≡◌, refl, sym, ap, ap₂, ◌∙◌}
 use mathlib.Core.Bool.{true, false}
 use mathlib.Core.List.{List, ◌++◌}
@@ -19,8 +20,7 @@ use lib.Seq.{length-take-le}
 use borrow.Author.Tests.{lt-ltb, le-ltb}
 use Rattle.slices.specs.Over.{over}
 use Rattle.refusals.specs.declared.Refusal.TheVariants.{TooLong, NoRoom, FigureOutside}
-use Rattle.refusals.specs.declared.Outcome.{Outcome}
-use Rattle.refusals.specs.declared.Outcome.TheVariants.{Accepted, Refused}
+use Rattle.refusals.specs.Numbers.{Outcome}
 use Rattle.refusals.specs.Limits.{message_limit, argon2_fits}
 use Rattle.refusals.proofs.Laws.Limits.{argon2_fits_bounds}
 use Rattle.argon2_fill.specs.State.{Fits}
@@ -62,27 +62,27 @@ used_is i m e = ap (λ (k : ℕ). i.lanes * (4 * (k / (4 * i.lanes))) * 128) e
 
 module _ (i : Inputs) (bytes lent : ℕ) where
   pub outcome_outside : argon2_fits (length i.salt) i.passes bytes i.lanes ≡ false
-      → Refused (FigureOutside 0) ≡ outcome i bytes lent
+      → Err (FigureOutside 0) ≡ outcome i bytes lent
   unfolding outcome
   outcome_outside a = rw a
 
   module _ (a : argon2_fits (length i.salt) i.passes bytes i.lanes ≡ true) where
-    pub outcome_long : leb (40 + inputs_length i) message_limit ≡ false → Refused TooLong ≡ outcome i bytes lent
+    pub outcome_long : leb (40 + inputs_length i) message_limit ≡ false → Err TooLong ≡ outcome i bytes lent
     unfolding outcome
     outcome_long b = rw (a, length-prehash i, b)
 
     module _ (b : leb (40 + inputs_length i) message_limit ≡ true) (n : ℕ) (e : n ≡ used i) where
-      pub outcome_short : lent < n → Refused NoRoom ≡ outcome i bytes lent
+      pub outcome_short : lent < n → Err NoRoom ≡ outcome i bytes lent
       unfolding outcome
       outcome_short h = rw (a, length-prehash i, b, ← e, lt-ltb lent n h)
 
-      pub outcome-accepted : n ≤ lent → Accepted ≡ outcome i bytes lent
+      pub outcome-accepted : n ≤ lent → (Ok tt) ≡ outcome i bytes lent
       unfolding outcome
       outcome-accepted h = rw (a, length-prehash i, b, ← e, le-ltb lent n h)
 
 -- the used part, lent, cleared and given back
 pub left_is : (i : Inputs) (m ys : List ℕ) (n : ℕ) → n ≡ used i → n ≤ length m → ys ≡ replicate (length (take n m)) 0
-    → ys ++ drop n m ≡ left Accepted i m
+    → ys ++ drop n m ≡ left (Ok tt) i m
 unfolding left over
 left_is i m ys n u h e =
     let zs : List ℕ = replicate n 0 in
@@ -107,7 +107,7 @@ typed i y m =
     }
 
 pub shown_is : (i : Inputs) (y m : ℕ) (h o d : List ℕ) → y ≡ i.kind → m ≡ i.memory → h ≡ h0 (typed i y m)
-    → o ≡ tag_of (figures (typed i y m)) h i.tag_length → o ≡ shown Accepted i d
+    → o ≡ tag_of (figures (typed i y m)) h i.tag_length → o ≡ shown (Ok tt) i d
 unfolding shown tag
 shown_is i y m h o d e g eh eo =
     eo ∙ ap (λ (x : List ℕ). tag_of (figures (typed i y m)) x i.tag_length) eh
@@ -118,8 +118,8 @@ answer o k = record { outcome = o; key = k }
 
 answer_own : (o : Outcome) (i : Inputs) → answer o (shown o i (replicate 32 0)) ≡ transformed o i
 unfolding shown transformed
-answer_own Accepted i = refl
-answer_own (Refused r) i = refl
+answer_own (Ok tt) i = refl
+answer_own (Err r) i = refl
 
 pub transformed_is : (i : Inputs) (r o : Outcome) (k : List ℕ) → r ≡ o → k ≡ shown r i (replicate 32 0)
     → answer r k ≡ transformed o i

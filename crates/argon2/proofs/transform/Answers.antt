@@ -1,6 +1,6 @@
 -- `argon2::transform` meets its contract. Assumes nothing.
 use mathlib.Core.Path.{ap, ◌∙◌}
-use Rattle.refusals.specs.declared.Outcome.{Outcome}
+use Rattle.refusals.specs.Numbers.{Outcome}
 use Rattle.argon2.specs.Run.{vault_inputs, left}
 use Rattle.argon2.proofs.Laws.Run.{transformed_is}
 use Rattle.argon2.proofs.transform.Goals as goal

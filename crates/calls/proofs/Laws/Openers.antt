@@ -43,10 +43,9 @@ use Rattle.refusals.specs.declared.Refusal.TheVariants.{
   TooFewRounds,
   FigureOutside,
 }
-use Rattle.refusals.specs.declared.Written.{Written}
-use Rattle.refusals.specs.declared.Written.TheVariants as written
+use Rattle.refusals.specs.Numbers.{Written}
 use Rattle.refusals.specs.Limits.{file_limit}
-use Rattle.refusals.specs.Numbers.{of_refusal, of_written}
+use Rattle.refusals.specs.Numbers.{of_refusal, number_of}
 use Rattle.refusals.proofs.Laws.Limits.{file_size}
 use Rattle.refusals.proofs.Laws.Numbers.{of_refusal_17}
 use Rattle.fips180.specs.Fips180 as fips180
@@ -59,7 +58,7 @@ use Rattle.ciphers.specs.declared.Cipher.TheVariants.{Aes256, ChaCha20}
 use Rattle.fields.specs.Fields.{bytes_at}
 use Rattle.outer_header.specs.Kdbx4Header.{header}
 use Rattle.outer_header.specs.declared.Header.{Header}
-use Rattle.std.specs.Prelude.{Ok}
+use Rattle.std.specs.Prelude.{Ok, Err}
 use Rattle.outer_header.proofs.Laws.Accepted.{header_stands}
 use Rattle.block_stream.specs.Blocks.{judge, data_at}
 use Rattle.block_stream.specs.declared.Block.{Block}
@@ -129,13 +128,13 @@ of_refusal_19 OutOfSequence e = refl
 of_refusal_19 (TooFewRounds at) e = absurd (omega arith)
 of_refusal_19 (FigureOutside at) e = absurd (omega arith)
 
-of_written_17 : (w : Written) → of_written w ≡ 17 → w ≡ written.Refused NoRoom
-of_written_17 (written.Wrote n) e = absurd (omega arith)
-of_written_17 (written.Refused r) e = ap (λ (x : Refusal). written.Refused x) (of_refusal_17 r e)
+of_written_17 : (w : Written) → number_of w ≡ 17 → w ≡ Err NoRoom
+of_written_17 (Ok n) e = absurd (omega arith)
+of_written_17 (Err r) e = ap (λ (x : Refusal). Err x) (of_refusal_17 r e)
 
-of_written_19 : (w : Written) → of_written w ≡ 19 → w ≡ written.Refused OutOfSequence
-of_written_19 (written.Wrote n) e = absurd (omega arith)
-of_written_19 (written.Refused r) e = ap (λ (x : Refusal). written.Refused x) (of_refusal_19 r e)
+of_written_19 : (w : Written) → number_of w ≡ 19 → w ≡ Err OutOfSequence
+of_written_19 (Ok n) e = absurd (omega arith)
+of_written_19 (Err r) e = ap (λ (x : Refusal). Err x) (of_refusal_19 r e)
 
 -- a closed or ended state
 typed-no_keys : bytes.TypedKeys no_keys
@@ -319,16 +318,16 @@ typed_step f o n t =
 
 -- an answer's number, and what it leaves
 kept_step : (f : List ℕ) (o : Opener) (n : ℕ)
-    → kept_or (of_written (step_of f o n).answer.written) (bytes.packed (step_of f o n).next) (bytes.packed o)
+    → kept_or (number_of (step_of f o n).answer.written) (bytes.packed (step_of f o n).next) (bytes.packed o)
     ≡ bytes.packed (step_of f o n).next
 kept_step f o n =
     let w : Written = (step_of f o n).answer.written in
     let k = step_of_kept f o n in
-    by_bool (eqb (of_written w) 17)
-    (λ a. rw a (sym (ap bytes.packed (k.no_room (of_written_17 w (eqb-true (of_written w) 17 a))))))
+    by_bool (eqb (number_of w) 17)
+    (λ a. rw a (sym (ap bytes.packed (k.no_room (of_written_17 w (eqb-true (number_of w) 17 a))))))
     (λ a.
-    by_bool (eqb (of_written w) 19)
-    (λ b. rw (a, b) (sym (ap bytes.packed (k.no_step (of_written_19 w (eqb-true (of_written w) 19 b))))))
+    by_bool (eqb (number_of w) 19)
+    (λ b. rw (a, b) (sym (ap bytes.packed (k.no_step (of_written_19 w (eqb-true (number_of w) 19 b))))))
     (λ b. rw (a, b)))
 
 pub opener_faithful : (f : List ℕ) → Faithful (opener_calls f) bytes.Typed

@@ -2,6 +2,7 @@
 --
 -- In order: started-typed, lent-typed (of any bytes that are lent), inner_stream_faithful.
 -- Assumes nothing.
+use Rattle.std.specs.Prelude.{Ok, Err}
 use mathlib.Core.Path.{◌≡◌, refl}
 use mathlib.Core.List.{List}
 use Prim.Native.Nat.{ℕ, ◌+◌, ◌≤◌}
@@ -15,8 +16,7 @@ use Rattle.words.proofs.Laws.Endian.{le-lt}
 use Rattle.slices.proofs.Laws.Parts.{length_part}
 use Rattle.refusals.specs.Limits.{stream_limit}
 use Rattle.refusals.proofs.Laws.Limits.{stream_word}
-use Rattle.refusals.specs.declared.Written.{Written}
-use Rattle.refusals.specs.declared.Written.TheVariants as written
+use Rattle.refusals.specs.Numbers.{Written}
 use Rattle.fips180.specs.Fips180 as fips180
 use Rattle.fips180.specs.Fips180.{hash}
 use Rattle.fips180.specs.Fips180.Constants.{iv512}
@@ -74,17 +74,17 @@ lent-typed b l h =
 
 -- the state behind a stretch
 typed_left : (s : InnerStream) (w : Written) → bytes.Typed s
-    → ((n : ℕ) → w ≡ written.Wrote n → s.position + n ≤ stream_limit)
+    → ((n : ℕ) → w ≡ Ok n → s.position + n ≤ stream_limit)
     → bytes.Typed (left s w).next
-typed_left s (written.Wrote n) t h =
+typed_left s (Ok n) t h =
     record {
       long_key = t.long_key;
       long_nonce = t.long_nonce;
       lt_position = let l = h n refl in omega (arith, stream_word);
     }
-typed_left s (written.Refused r) t h = t
+typed_left s (Err r) t h = t
 
-wrote_within : (s : InnerStream) (n room m : ℕ) → answer s n room ≡ written.Wrote m → s.position + m ≤ stream_limit
+wrote_within : (s : InnerStream) (n room m : ℕ) → answer s n room ≡ Ok m → s.position + m ≤ stream_limit
 wrote_within s n room m e =
     let p = (accepted-planned s n room m e).1 in
     omega (arith, p.long, p.end_fits)
@@ -96,8 +96,8 @@ typed-applied s b room t =
 
 kept_left : (s : InnerStream) (w : Written)
     → kept_unless (left s w).written (bytes.packed (left s w).next) (bytes.packed s) ≡ bytes.packed (left s w).next
-kept_left s (written.Wrote n) = refl
-kept_left s (written.Refused r) = refl
+kept_left s (Ok n) = refl
+kept_left s (Err r) = refl
 
 kept_applied : (s : InnerStream) (b : List ℕ) (room : ℕ)
     → kept_unless (applied s b room).written (bytes.packed (applied s b room).next) (bytes.packed s)

@@ -115,14 +115,14 @@ module _ (s name : List ℕ) where
 
   -- an answer other than a refusal is the search's
   find_in-accepted : (o : Result Unit Fault) (f : Result (Option Value) Refusal) → find_in o s name ≡ f → ((r : _) → f ≡ Err r → ⊥)
-      → (o ≡ (Ok tt)) × (search_from (length s) s 2 name ≡ f)
+      → (o ≡ Ok tt) × (search_from (length s) s 2 name ≡ f)
   unfolding find_in
   find_in-accepted (Ok tt) f p h = (refl, p)
   find_in-accepted (Err (fault.Broken at)) f p h = absurd (h _ (sym p))
   find_in-accepted (Err (fault.Repeated at)) f p h = absurd (h _ (sym p))
 
   pub find-accepted : (f : Result (Option Value) Refusal) → find s name ≡ f → ((r : _) → f ≡ Err r → ⊥)
-      → (verdict s ≡ (Ok tt)) × (search_from (length s) s 2 name ≡ f)
+      → (verdict s ≡ Ok tt) × (search_from (length s) s 2 name ≡ f)
   unfolding find
   find-accepted f p h = find_in-accepted (verdict s) f p h
 

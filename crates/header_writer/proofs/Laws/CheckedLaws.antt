@@ -10,8 +10,7 @@ use native.Mathlib.Omega.{arith}
 use lib.ListN.{length}
 use borrow.Author.Tests.{leb-true, eqb-true, le-leb, eq-eqb}
 use Rattle.refusals.specs.declared.Refusal.{Refusal}
-use Rattle.refusals.specs.declared.Outcome.{Outcome}
-use Rattle.refusals.specs.declared.Outcome.TheVariants as outcome
+use Rattle.refusals.specs.Numbers.{Outcome}
 use Rattle.refusals.specs.Limits.{rounds_least, rounds_limit}
 use Rattle.ciphers.specs.Ciphers.{cipher_of, nonce_length}
 use Rattle.ciphers.specs.declared.Cipher.{Cipher}
@@ -32,17 +31,17 @@ pub record IsChecked (minor : ℕ) (id seed nonce : List ℕ) (fig : Figures) (s
   pub seed_long : length seed ≡ 32
   pub nonce_long : length nonce ≡ nonce_length c
   pub writable : IsWritable fig (length salt)
-  pub custom_sound : custom_verdict custom ≡ outcome.Accepted
+  pub custom_sound : custom_verdict custom ≡ Ok tt
 
 -- a test before a check
 cond_as : (b : Bool) (x : Result Cipher Refusal) (r : Refusal) (c : Cipher) → cond b x (Err r) ≡ Ok c → (b ≡ true) × (x ≡ Ok c)
 cond_as true x r c e = (refl, e)
 cond_as false x r c e = absurd (refused_never r c e)
 
-checked_custom_as : (c d : Cipher) (o : Outcome) → checked_custom d o ≡ Ok c → (d ≡ c) × (o ≡ outcome.Accepted)
+checked_custom_as : (c d : Cipher) (o : Outcome) → checked_custom d o ≡ Ok c → (d ≡ c) × (o ≡ Ok tt)
 unfolding checked_custom
-checked_custom_as c d outcome.Accepted e = (cc, refl)
-checked_custom_as c d (outcome.Refused r) e = absurd (refused_never r c e)
+checked_custom_as c d (Ok tt) e = (cc, refl)
+checked_custom_as c d (Err r) e = absurd (refused_never r c e)
 
 checked_figures_as : (c d : Cipher) (fig : Figures) (salt custom : List ℕ) → salt_sized fig (length salt) ≡ true
     → checked_figures d fig salt custom ≡ Ok c
@@ -97,7 +96,7 @@ sized_writable (figures.Argon2d passes memory lanes) n w = refl
 sized_writable (figures.Argon2id passes memory lanes) n w = refl
 
 figures_writable : (c : Cipher) (fig : Figures) (salt custom : List ℕ) → IsWritable fig (length salt)
-    → custom_verdict custom ≡ outcome.Accepted → checked_figures c fig salt custom ≡ Ok c
+    → custom_verdict custom ≡ (Ok tt) → checked_figures c fig salt custom ≡ Ok c
 unfolding checked_figures checked_custom IsWritable
 figures_writable c (figures.AesKdf rounds) salt custom w v =
     rw (le-leb rounds rounds_limit w.1, le-leb rounds_least rounds w.2, v)

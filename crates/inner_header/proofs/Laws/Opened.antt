@@ -16,7 +16,6 @@ use borrow.Author.Tests.{lt-ltb, le-ltb}
 use Rattle.words.specs.Endian.{le}
 use Rattle.refusals.specs.declared.Refusal.{Refusal}
 use Rattle.refusals.specs.declared.Refusal.TheVariants.{Absent}
-use Rattle.refusals.specs.declared.Outcome.TheVariants as outcome
 use Rattle.inner_header.specs.declared.Tally.{Tally}
 use Rattle.std.specs.Prelude.{Ok, Err}
 use Rattle.inner_header.specs.InnerHeader.{
@@ -44,23 +43,23 @@ module _ (i : ℕ) (s : List ℕ) where
   judged-refused (refused x) r e = e
 
   pub judged_faulty : (w : Walked) (t : Tally) (end : ℕ) (r : Refusal) → Ok (t, end) ≡ tallied i w
-      → outcome.Refused r ≡ fault s t.algorithm t.key end → Err r ≡ tallied i (judged s w)
+      → Err r ≡ fault s t.algorithm t.key end → Err r ≡ tallied i (judged s w)
   unfolding judged judged_by tallied
   judged_faulty (ended f n) t end r e g =
       let q : t ≡ tally_of i f = ok_first e in
       let m : end ≡ n = ok_second e in
-      let d : fault s f.algorithm f.key n ≡ outcome.Refused r =
+      let d : fault s f.algorithm f.key n ≡ Err r =
       sym (g ∙ ap₂ (λ (u : Tally) (x : ℕ). fault s u.algorithm u.key x) q m) in
       rw d
   judged_faulty (refused x) t end r e g = let z : ◌≡◌ {A = ℕ} 0 1 = cc in absurd (omega arith)
 
   pub judged_fine : (w : Walked) (t : Tally) (end : ℕ) → Ok (t, end) ≡ tallied i w
-      → outcome.Accepted ≡ fault s t.algorithm t.key end → Ok (t, end) ≡ tallied i (judged s w)
+      → (Ok tt) ≡ fault s t.algorithm t.key end → Ok (t, end) ≡ tallied i (judged s w)
   unfolding judged judged_by tallied
   judged_fine (ended f n) t end e g =
       let q : t ≡ tally_of i f = ok_first e in
       let m : end ≡ n = ok_second e in
-      let d : fault s f.algorithm f.key n ≡ outcome.Accepted =
+      let d : fault s f.algorithm f.key n ≡ (Ok tt) =
       sym (g ∙ ap₂ (λ (u : Tally) (x : ℕ). fault s u.algorithm u.key x) q m) in
       rw d e
   judged_fine (refused x) t end e g = let z : ◌≡◌ {A = ℕ} 0 1 = cc in absurd (omega arith)

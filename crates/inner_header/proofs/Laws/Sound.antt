@@ -10,8 +10,7 @@ use lib.Dec.{eqb, leb}
 use lib.ListN.{length, get_or, length-append}
 use borrow.Author.Tests.{eqb-true, eqb-false, leb-true}
 use Rattle.words.proofs.Laws.Cases.{by_bool}
-use Rattle.refusals.specs.declared.Outcome.{Outcome}
-use Rattle.refusals.specs.declared.Outcome.TheVariants as outcome
+use Rattle.refusals.specs.Numbers.{Outcome}
 use Rattle.refusals.specs.Limits.{payload_limit}
 use Rattle.fields.specs.declared.Place.{Place}
 use Rattle.std.specs.Prelude.{Result, Ok, Err}
@@ -98,8 +97,8 @@ walk_kept (suc k) f s at h =
 judged_by_kept : (s : List ℕ) (o : Outcome) (f : Fields) (end : ℕ) → Sound s f.attachments
     → Kept s (judged_by o f end)
 unfolding judged_by
-judged_by_kept s outcome.Accepted f end h = h
-judged_by_kept s (outcome.Refused r) f end h = omega arith
+judged_by_kept s (Ok tt) f end h = h
+judged_by_kept s (Err r) f end h = omega arith
 
 judged_kept : (s : List ℕ) (w : Walked) → Kept s w → Kept s (judged s w)
 unfolding judged

@@ -20,22 +20,22 @@ returns-in_err-t c =
     rw (r.1, r.2, sym c.payload_fits.ensures ∙ c.if-not-payload_fits.false)
     (judged-refused a.index s (walk (length s) no_fields s 0) _ (sym c.in_err-t.was ∙ c.walk.ensures))
 
-pub returns-in-Refused : goal.returns-in-Refused
+pub returns-in-Err : goal.returns-in-Err
 unfolding opened
-returns-in-Refused c =
+returns-in-Err c =
     let a = c.args in
     let s = a.s.now in
     rw (sym c.payload_fits.ensures ∙ c.if-not-payload_fits.false)
-    (judged_faulty a.index s (walk (length s) no_fields s 0) c.in_ok-t.t c.in_ok-t.end c.in-Refused.r
+    (judged_faulty a.index s (walk (length s) no_fields s 0) c.in_ok-t.t c.in_ok-t.end c.in-Err.r
     (sym c.in_ok-t.was ∙ c.walk.ensures)
-    (sym c.in-Refused.is ∙ c.fault.ensures))
+    (sym c.in-Err.is ∙ c.fault.ensures))
 
-pub returns-in-Accepted : goal.returns-in-Accepted
+pub returns-in-Ok : goal.returns-in-Ok
 unfolding opened
-returns-in-Accepted c =
+returns-in-Ok c =
     let a = c.args in
     let s = a.s.now in
     rw (sym c.payload_fits.ensures ∙ c.if-not-payload_fits.false)
     (judged_fine a.index s (walk (length s) no_fields s 0) c.in_ok-t.t c.in_ok-t.end
     (sym c.in_ok-t.was ∙ c.walk.ensures)
-    (sym c.in-Accepted.is ∙ c.fault.ensures))
+    (sym c.in-Ok.is ∙ c.fault.ensures))

@@ -254,7 +254,7 @@ abbrev split : List Part → List Part → List ℕ
 split ds is = (0x00 ∷ 0x01 ∷ plain ds) ++ joined is
 
 walk-joined : (is ds : List Part) (k : ℕ) → AllSound ds → AllSound is → Fresh ds is → length is < k
-    → walk k (split ds is) (length (0x00 ∷ 0x01 ∷ plain ds)) ≡ (Ok tt)
+    → walk k (split ds is) (length (0x00 ∷ 0x01 ∷ plain ds)) ≡ Ok tt
 unfolding AllSound joined Fresh walk_in
 walk-joined [] ds k hd h f l =
     walk_more k (split ds []) (length (0x00 ∷ 0x01 ∷ plain ds)) (Ok None) (omega arith)
@@ -286,7 +286,7 @@ length-joined (i ∷ is) =
     let r = length-joined is in
     rw (length-append, length-item_bytes) (omega arith)
 
-pub verdict-joined : (is : List Part) → AllSound is → Fresh [] is → verdict (0x00 ∷ 0x01 ∷ joined is) ≡ (Ok tt)
+pub verdict-joined : (is : List Part) → AllSound is → Fresh [] is → verdict (0x00 ∷ 0x01 ∷ joined is) ≡ Ok tt
 unfolding verdict plain AllSound
 verdict-joined is h f =
     let l = length-joined is in

@@ -1,55 +1,46 @@
 -- `keys::from_parts` meets its contract. Assumes nothing.
-use mathlib.Core.Path.{ap, ◌∙◌}
-use mathlib.Core.List.{List}
-use Prim.Native.Nat.{ℕ}
 use native.Mathlib.Omega.{arith}
 use Rattle.refusals.specs.Limits.{message_limit}
 use Rattle.refusals.proofs.Laws.Limits.{message_blocks}
-use Rattle.fips180.specs.Fips180.{sha256, hash}
-use Rattle.keys.specs.Kdbx4Keys.{composite_of, accepted}
-use Rattle.keys.specs.State.{composed}
-use Rattle.keys.proofs.Laws.{over_given}
+use Rattle.keys.specs.Kdbx4Keys.{composite_of}
 use Rattle.keys.proofs.from_parts.Goals as goal
 
-pub hash_of-p-requires : goal.hash_of-p-requires
-hash_of-p-requires c =
-    over_given message_limit c.args.password.now (rw c.if-has_password.true at c.requires.password_value)
+pub hash_of-requires-in-Some-None-None-2 : goal.hash_of-requires-in-Some-None-None-2
+hash_of-requires-in-Some-None-None-2 c = omega (arith, message_blocks)
 
-pub key_file_part-requires : goal.key_file_part-requires
-key_file_part-requires c =
-    over_given message_limit c.args.key_file.now (rw c.if-has_key_file.true at c.requires.key_file_value)
+pub hash_of-requires-in-None-Some-None : goal.hash_of-requires-in-None-Some-None
+hash_of-requires-in-None-Some-None c = omega (arith, message_blocks)
 
-pub returns-then-has_key_file : goal.returns-then-has_key_file
+pub returns-in-Some-Some-None : goal.returns-in-Some-Some-None
 unfolding composite_of
-returns-then-has_key_file c =
-    rw (c.if-has_password.true, c.if-has_key_file.true)
-    (c.accept.ensures ∙ ap (λ (k : List ℕ). composed (accepted k))
-    (c.hash_two.ensures ∙ cc (c.hash_of-p.ensures, c.key_file_part.ensures)))
+returns-in-Some-Some-None c =
+    let s = c.in-Some-Some-None in
+    rw (s.is-0, s.is-1, s.is-2, c.hash_two.ensures, c.hash_of.ensures, c.key_file_part.ensures)
 
-pub hash_of-requires : goal.hash_of-requires
-hash_of-requires c = omega (arith, message_blocks)
-
-pub returns-then-has_password : goal.returns-then-has_password
+pub returns-in-Some-None-None : goal.returns-in-Some-None-None
 unfolding composite_of
-returns-then-has_password c =
-    rw (c.if-has_password.true, c.if-has_key_file.false)
-    (c.accept-then-has_password.ensures ∙ ap (λ (k : List ℕ). composed (accepted k))
-    (c.hash_of.ensures ∙ ap (hash sha256) c.hash_of-p.ensures))
+returns-in-Some-None-None c =
+    let s = c.in-Some-None-None in
+    rw (s.is-0, s.is-1, s.is-2, c.hash_of-in-Some-None-None-2.ensures, c.hash_of-in-Some-None-None.ensures)
 
-pub key_file_part-f-requires : goal.key_file_part-f-requires
-key_file_part-f-requires c =
-    over_given message_limit c.args.key_file.now (rw c.if-has_key_file-2.true at c.requires.key_file_value)
-
-pub hash_of-requires-then-has_key_file-2 : goal.hash_of-requires-then-has_key_file-2
-hash_of-requires-then-has_key_file-2 c = omega (arith, message_blocks)
-
-pub returns-then-has_key_file-2 : goal.returns-then-has_key_file-2
+pub returns-in-None-Some-None : goal.returns-in-None-Some-None
 unfolding composite_of
-returns-then-has_key_file-2 c =
-    rw (c.if-has_password.false, c.if-has_key_file-2.true)
-    (c.accept-then-has_key_file-2.ensures ∙ ap (λ (k : List ℕ). composed (accepted k))
-    (c.hash_of-then-has_key_file-2.ensures ∙ ap (hash sha256) c.key_file_part-f.ensures))
+returns-in-None-Some-None c =
+    let s = c.in-None-Some-None in
+    rw (s.is-0, s.is-1, s.is-2, c.hash_of-in-None-Some-None.ensures, c.key_file_part-in-None-Some-None.ensures)
 
-pub returns : goal.returns
+pub returns-in_default : goal.returns-in_default
 unfolding composite_of
-returns c = rw (c.if-has_password.false, c.if-has_key_file-2.false) c.refuse.ensures
+returns-in_default c = rw (c.in_default.is-0, c.in_default.is-1, c.in_default.is-2)
+
+pub returns-in_default-2 : goal.returns-in_default-2
+unfolding composite_of
+returns-in_default-2 c = rw (c.in_default.is-0, c.in_default.is-1, c.in_default.is-2)
+
+pub returns-in_default-3 : goal.returns-in_default-3
+unfolding composite_of
+returns-in_default-3 c = rw (c.in_default.is-0, c.in_default.is-1, c.in_default.is-2)
+
+pub returns-in_default-4 : goal.returns-in_default-4
+unfolding composite_of
+returns-in_default-4 c = rw (c.in_default.is-0, c.in_default.is-1, c.in_default.is-2)

@@ -21,7 +21,6 @@ use Rattle.slices.specs.Over.{over}
 use Rattle.slices.proofs.Laws.Over.{over_tail, length_over}
 use Rattle.refusals.specs.declared.Refusal.{Refusal}
 use Rattle.refusals.specs.declared.Refusal.TheVariants.{TooLong, NoRoom}
-use Rattle.refusals.specs.declared.Written.TheVariants.{Wrote, Refused}
 use Rattle.refusals.specs.Limits.{program_limit}
 use Rattle.refusals.proofs.Laws.Limits.{file_size}
 use Rattle.outer_header.specs.declared.Header.{Header}
@@ -92,17 +91,17 @@ module _ (s d x : List ℕ) (h : 12 ≤ length s) (r : length (hex_lines (frames
       let l = length_lines s h in
       over_tail (hex_line (take 12 s)) (field_lines s) d x ys 25 k e length_first (omega arith) (omega arith) g
 
-pub answer-wrote : (w d : List ℕ) (n : ℕ) → n ≡ length w → n ≤ length d → Wrote n ≡ answer w d
+pub answer-wrote : (w d : List ℕ) (n : ℕ) → n ≡ length w → n ≤ length d → Ok n ≡ answer w d
 unfolding answer
 answer-wrote w d n e h =
     let l : length w ≤ length d = omega arith in
-    rw (le-leb _ _ l) (ap (λ (k : ℕ). Wrote k) e)
+    rw (le-leb _ _ l) (ap (λ (k : ℕ). Ok k) e)
 
 pub after_wrote : (w d x : List ℕ) → length w ≤ length d → x ≡ over w d → x ≡ after w d
 unfolding after
 after_wrote w d x h e = rw (le-leb _ _ h) e
 
-pub answer-refused : (w d : List ℕ) → length d < length w → Refused NoRoom ≡ answer w d
+pub answer-refused : (w d : List ℕ) → length d < length w → Err NoRoom ≡ answer w d
 unfolding answer
 answer-refused w d h = rw (lt-leb _ _ h)
 

@@ -2,6 +2,7 @@
 --
 -- In order: Answered (the two together), answered-refused, answered_room, answered-opened, answered_whole.
 -- Assumes nothing.
+use Rattle.std.specs.Prelude.{Ok, Err}
 use mathlib.Core.Path.{◌≡◌, refl, sym, ap}
 use mathlib.Core.List.{List}
 use Prim.Native.Nat.{ℕ, ◌≤◌, ◌<◌}
@@ -10,8 +11,7 @@ use lib.ListN.{length}
 use borrow.Author.Tests.{lt-ltb, le-ltb}
 use Rattle.refusals.specs.declared.Refusal.{Refusal}
 use Rattle.refusals.specs.declared.Refusal.TheVariants.{NoRoom}
-use Rattle.refusals.specs.declared.Written.{Written}
-use Rattle.refusals.specs.declared.Written.TheVariants as written
+use Rattle.refusals.specs.Numbers.{Written}
 use Rattle.slices.specs.Over.{over}
 use Rattle.slices.proofs.Laws.Over.{over_nil}
 use Rattle.opening.specs.Decryption.{Opened, refused, opened}
@@ -26,21 +26,21 @@ Answered o r d e =
       out_after : e ≡ over (shown_of (roomed (length d) o)) d;
     }
 
-pub answered-refused : (o : Opened) (r : Refusal) (d : List ℕ) → o ≡ refused r → Answered o (written.Refused r) d d
+pub answered-refused : (o : Opened) (r : Refusal) (d : List ℕ) → o ≡ refused r → Answered o (Err r) d d
 unfolding written_of shown_of roomed
 answered-refused o r d e = rw e (record { value = refl; out_after = sym (over_nil d) })
 
 pub answered_room : (o : Opened) (b d : List ℕ) → o ≡ opened b → length d < length b
-    → Answered o (written.Refused NoRoom) d d
+    → Answered o (Err NoRoom) d d
 unfolding written_of shown_of roomed
 answered_room o b d e h = rw (e, lt-ltb _ _ h) (record { value = refl; out_after = sym (over_nil d) })
 
 pub answered-opened : (o : Opened) (b d x : List ℕ) (n : ℕ) → o ≡ opened b → length b ≡ n → n ≤ length d → x ≡ over b d
-    → Answered o (written.Wrote n) d x
+    → Answered o (Ok n) d x
 unfolding written_of shown_of roomed
 answered-opened o b d x n e l h g =
     let k : length b ≤ length d = omega arith in
-    rw (e, le-ltb _ _ k) (record { value = ap written.Wrote (sym l); out_after = g })
+    rw (e, le-ltb _ _ k) (record { value = ap Ok (sym l); out_after = g })
 
 pub answered_whole : (k : Keys) (f : List ℕ) (p : ℕ) (o : Opened) (r : Written) (d x : List ℕ) → whole k f p ≡ o
     → Answered o r d x

@@ -1,6 +1,6 @@
 -- `open_whole::open_blocks` meets its contract. Assumes nothing.
+use Rattle.std.specs.Prelude.{Err}
 use mathlib.Core.Path.{refl, sym, ap, ◌∙◌}
-use Rattle.refusals.specs.declared.Written.TheVariants.{Refused}
 use Rattle.ciphers.specs.declared.Cipher.{Cipher}
 use Rattle.ciphers.specs.declared.Cipher.TheVariants.{Aes256, ChaCha20}
 use Rattle.opening.specs.Decryption.{refused, payload_by}
@@ -14,20 +14,20 @@ returns-in-Err c =
     let a = c.args in
     let r = c.in-Err.r in
     let d = a.out.now in
-    answered_whole a.k a.f.now a.p (refused r) (Refused r) d d
+    answered_whole a.k a.f.now a.p (refused r) (Err r) d d
     (whole_refused a.k a.f.now a.p r (sym c.survey.ensures ∙ c.in-Err.is))
     (answered-refused (refused r) r d refl)
 
 pub open_aes-requires : goal.open_aes-requires
 open_aes-requires c =
     let a = c.args in
-    length-text a.k.base a.f.now a.p c.in-Ok.c
+    length-text a.k.base a.f.now a.p c.in-Ok.count
     (sym c.survey.ensures ∙ c.in-Ok.is)
 
 pub open_chacha20-requires : goal.open_chacha20-requires
 open_chacha20-requires c =
     let a = c.args in
-    length-text a.k.base a.f.now a.p c.in-Ok.c
+    length-text a.k.base a.f.now a.p c.in-Ok.count
     (sym c.survey.ensures ∙ c.in-Ok.is)
 
 pub returns-in-Aes256 : goal.returns-in-Aes256
@@ -36,7 +36,7 @@ returns-in-Aes256 c =
     let t = text a.f.now a.p in
     answered_whole a.k a.f.now a.p (payload_by Aes256 a.k t) c.open_aes.result a.out.now
     c.open_aes.new.out
-    (whole_text a.k a.f.now a.p c.in-Ok.c
+    (whole_text a.k a.f.now a.p c.in-Ok.count
     (sym c.survey.ensures ∙ c.in-Ok.is)
     ∙ ap (λ (z : Cipher). payload_by z a.k t) c.in-Aes256.is)
     c.open_aes.ensures
@@ -47,7 +47,7 @@ returns-in-ChaCha20 c =
     let t = text a.f.now a.p in
     answered_whole a.k a.f.now a.p (payload_by ChaCha20 a.k t) c.open_chacha20.result a.out.now
     c.open_chacha20.new.out
-    (whole_text a.k a.f.now a.p c.in-Ok.c
+    (whole_text a.k a.f.now a.p c.in-Ok.count
     (sym c.survey.ensures ∙ c.in-Ok.is)
     ∙ ap (λ (z : Cipher). payload_by z a.k t) c.in-ChaCha20.is)
     c.open_chacha20.ensures

@@ -24,13 +24,12 @@ use Rattle.slices.specs.Over.{over}
 use Rattle.slices.proofs.Laws.Over.{over_nil, over_fits}
 use Rattle.refusals.specs.declared.Refusal.{Refusal}
 use Rattle.refusals.specs.declared.Refusal.TheVariants.{TrailingBytes, WrongPadding, NoRoom, OutOfSequence}
-use Rattle.refusals.specs.declared.Written.TheVariants.{Wrote}
 use Rattle.ciphers.specs.declared.Cipher.{Cipher}
 use Rattle.ciphers.specs.declared.Cipher.TheVariants.{Aes256, ChaCha20}
 use Rattle.fips197.specs.Fips197.{inv_cipher}
 use Rattle.cbc.proofs.Laws.Mode.{length-decrypt}
 use Rattle.aes_cbc.proofs.RoundTrip.{inv_cipher-keeps}
-use Rattle.std.specs.Prelude.{Option, Some}
+use Rattle.std.specs.Prelude.{Option, Some, Ok}
 use Rattle.pkcs7.specs.Pkcs7.{padding, strip}
 use Rattle.pkcs7.specs.Answer.{answer}
 use Rattle.pkcs7.proofs.Laws.Check.{answer_of}
@@ -67,13 +66,13 @@ unfolding hand
 hand_short n b o a h = rw (lt-ltb n (length b) h)
 
 pub hand_does : (b d x : List ℕ) (n : ℕ) (o a : Opener) (r : Stepped) → length b ≡ n → n ≤ length d
-    → r ≡ record { answer = Wrote n; next = a } → x ≡ over b d
+    → r ≡ record { answer = Ok n; next = a } → x ≡ over b d
     → Does (hand (length d) b o a) r d x
 unfolding hand
 hand_does b d x n o a r e l g h =
     let k : length b ≤ length d = omega arith in
     rw (le-ltb (length d) (length b) k)
-    (record { gives = g ∙ ap (λ (m : ℕ). record { answer = Wrote m; next = a }) (sym e); leaves = h })
+    (record { gives = g ∙ ap (λ (m : ℕ). record { answer = Ok m; next = a }) (sym e); leaves = h })
 
 pub length_data : (f : List ℕ) (o : Opener) (n : ℕ) → o.at + 36 + n ≤ length f → length (data_at f o.at n) ≡ n
 length_data f o n h = length-take-le n (drop (o.at + 36) f) (simp length-drop (omega arith))
@@ -91,7 +90,7 @@ module _ (f : List ℕ) (o : Opener) (n : ℕ) (fits : o.at + 36 + n ≤ length 
   data_short m h = hand_short m _ o (taking o (data_at f o.at n)) (omega (arith, length_bytes))
 
   pub data_does : (d x : List ℕ) (k : ℕ) (r : Stepped) → k ≡ due_by o.keys.cipher o.taken n → k ≤ length d
-      → r ≡ record { answer = Wrote k; next = taking o (data_at f o.at n) }
+      → r ≡ record { answer = Ok k; next = taking o (data_at f o.at n) }
       → x ≡ over (bytes_by o.keys.cipher o.keys o.taken o.prev o.held (data_at f o.at n)) d
       → Does (step_on (Data n) f o (length d)) r d x
   unfolding step_on
@@ -163,13 +162,13 @@ module _ (k : Keys) (c : ℕ) (v x : List ℕ) (o : Opener) (d : List ℕ) (some
 
   pub last_does : (a : Opener) (w : List ℕ) → 16 - p ≤ length d → a ≡ blank Ended
       → w ≡ over (take (length d) (take (16 - p) y)) d
-      → Does (close_by (last_by Aes256 k c v x) o (length d)) (record { answer = Wrote (16 - p); next = a }) d w
+      → Does (close_by (last_by Aes256 k c v x) o (length d)) (record { answer = Ok (16 - p); next = a }) d w
   last_does a w h e g =
       let b = take (16 - p) (aes_from k v x) in
       let l : length b ≤ length d = omega (arith, length_left) in
-      does_by _ (hand (length d) b o (blank Ended)) (record { answer = Wrote (16 - p); next = a }) d w padded_is
-      (hand_does b d w (16 - p) o (blank Ended) (record { answer = Wrote (16 - p); next = a }) length_left h
-      (ap (λ (q : Opener). record { answer = Wrote (16 - p); next = q }) e)
+      does_by _ (hand (length d) b o (blank Ended)) (record { answer = Ok (16 - p); next = a }) d w padded_is
+      (hand_does b d w (16 - p) o (blank Ended) (record { answer = Ok (16 - p); next = a }) length_left h
+      (ap (λ (q : Opener). record { answer = Ok (16 - p); next = q }) e)
       (g ∙ ap (λ (q : List ℕ). over (take (length d) (take (16 - p) q)) d) ey ∙ over_fits b d l))
 
 pub chacha_last : (k : Keys) (c : ℕ) (v x : List ℕ) (o : Opener) (m : ℕ)

@@ -1,11 +1,11 @@
 -- `opener::step_closing` meets its contract. Assumes nothing.
+use Rattle.std.specs.Prelude.{Ok}
 use mathlib.Core.Path.{refl, sym, ap, ◌∙◌}
 use mathlib.Core.List.{[]}
 use native.Mathlib.Omega.{arith}
 use lib.ListN.{length}
 use Rattle.slices.proofs.Laws.Over.{over_nil}
 use Rattle.refusals.specs.declared.Refusal.TheVariants.{TrailingBytes}
-use Rattle.refusals.specs.declared.Written.TheVariants.{Wrote}
 use Rattle.ciphers.specs.declared.Cipher.TheVariants.{Aes256, ChaCha20}
 use Rattle.opening.specs.declared.Opener.{Opener}
 use Rattle.opening.specs.declared.Phase.TheVariants.{Closed, Ended}
@@ -41,4 +41,4 @@ returns-in-ChaCha20 c =
     (closing_last a.f.now o (length d) c.if-o-f.false ChaCha20 c.in-ChaCha20.is
     ∙ chacha_last o.keys o.taken o.prev o.held o (length d))
     (hand_does [] d d 0 o (blank Ended) _ refl (omega arith)
-    (ap (λ (x : Opener). record { answer = Wrote 0; next = x }) c.blank-in-ChaCha20.ensures) (sym (over_nil d)))
+    (ap (λ (x : Opener). record { answer = Ok 0; next = x }) c.blank-in-ChaCha20.ensures) (sym (over_nil d)))

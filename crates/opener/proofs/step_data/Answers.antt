@@ -1,4 +1,5 @@
 -- `opener::step_data` meets its contract. Assumes nothing.
+use Rattle.std.specs.Prelude.{Ok}
 use mathlib.Core.Path.{◌≡◌, ap, ◌∙◌}
 use mathlib.Core.List.{List}
 use Prim.Native.Nat.{ℕ, ◌+◌, ◌-◌, ◌≤◌, ◌<◌}
@@ -6,7 +7,6 @@ use native.Mathlib.Omega.{arith}
 use lib.ListN.{length, take, drop}
 use Rattle.slices.specs.Over.{over}
 use Rattle.refusals.specs.declared.Refusal.TheVariants.{NoRoom}
-use Rattle.refusals.specs.declared.Written.TheVariants.{Wrote}
 use Rattle.opening.specs.declared.Opener.{Opener}
 use Rattle.opening.specs.Runs.{refuse}
 use Rattle.opening.specs.Steps.{bytes_by, taking}
@@ -59,5 +59,5 @@ returns c =
     let p = part_is a.f.now o.at a.n in
     data_does a.f.now o a.n c.requires.n_in_bounds long_prev long_held d _ k _ c.due-need.ensures
     c.if-out-need.false
-    (ap (λ (x : Opener). record { answer = Wrote k; next = x }) (t.value ∙ ap (taking o) p))
+    (ap (λ (x : Opener). record { answer = Ok k; next = x }) (t.value ∙ ap (taking o) p))
     (t.out_after ∙ ap (λ (b : List ℕ). over (bytes_by o.keys.cipher o.keys o.taken o.prev o.held b) d) p)

@@ -12,6 +12,7 @@
 --   step_of-closed                         a closed or ended state gives 19
 -- Not here: lists of steps (Runs).
 -- Assumes nothing.
+use Rattle.std.specs.Prelude.{Err}
 use mathlib.Core.Path.{◌≡◌, refl, sym}
 use mathlib.Core.Logic.{◌≢◌}
 use mathlib.Core.Bool.{Bool, cond}
@@ -22,7 +23,6 @@ use lib.ListN.{length}
 use Rattle.words.proofs.Laws.Cases.{by_bool}
 use Rattle.refusals.specs.declared.Refusal.{Refusal}
 use Rattle.refusals.specs.declared.Refusal.TheVariants.{TrailingBytes, NoRoom, OutOfSequence}
-use Rattle.refusals.specs.declared.Written.TheVariants as written
 use Rattle.refusals.specs.Numbers.{count_of}
 use Rattle.pkcs7.specs.Pkcs7.{strip}
 use Rattle.ciphers.specs.declared.Cipher.{Cipher}
@@ -43,10 +43,10 @@ use Rattle.opening.proofs.Laws.Judge.{closing_is, closing_trailing_bytes, closin
 use Rattle.opening.proofs.Laws.Refusals.{stripped-refused}
 
 pub record Kept (o : Opener) (x : Reply Opener) : Type 0 where
-  pub no_room : x.answer.written ≡ written.Refused NoRoom → x.next ≡ o
-  pub no_step : x.answer.written ≡ written.Refused OutOfSequence → x.next ≡ o
-  pub closes : (r : Refusal) → x.answer.written ≡ written.Refused r → Closing r → x.next ≡ blank Closed
-  pub nothing : (r : Refusal) → x.answer.written ≡ written.Refused r → x.answer.bytes ≡ []
+  pub no_room : x.answer.written ≡ Err NoRoom → x.next ≡ o
+  pub no_step : x.answer.written ≡ Err OutOfSequence → x.next ≡ o
+  pub closes : (r : Refusal) → x.answer.written ≡ Err r → Closing r → x.next ≡ blank Closed
+  pub nothing : (r : Refusal) → x.answer.written ≡ Err r → x.answer.bytes ≡ []
   pub counted : count_of x.answer.written ≡ length x.answer.bytes
 
 kept_refuse : (o : Opener) → Kept o (refuse OutOfSequence o)

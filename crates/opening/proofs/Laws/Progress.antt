@@ -27,7 +27,7 @@ use Rattle.opening.specs.declared.Phase.TheVariants.{Open, Closed, Ended}
 use Rattle.opening.specs.Decryption.{Opened, refused, opened, handed, given, payload}
 use Rattle.opening.specs.Whole.{close_of, walk_in, walk, whole}
 use Rattle.opening.specs.Runs.{Reply, refuse}
-use Rattle.opening.specs.Plain.{Plain, plain, plain_start, due, plain_close, plain_on, plain_in}
+use Rattle.opening.specs.Plain.{Plain, plain, plain_start, plain_close, plain_on, plain_in}
 use Rattle.opening.proofs.Laws.Replies.{never, cond-opened, hand_both}
 use Rattle.opening.proofs.Laws.Given.{given_nil, given_due, payload_remainder}
 

@@ -11,6 +11,7 @@
 --   short_step                          no step hands over more than that
 -- Not here: what is handed over (Progress).
 -- Assumes nothing.
+use Rattle.std.specs.Prelude.{Err}
 use mathlib.Core.Path.{◌≡◌, refl, sym, ◌∙◌}
 use mathlib.Core.Logic.{◌≢◌}
 use mathlib.Core.Option.{Option, none, some}
@@ -22,8 +23,7 @@ use lib.ListN.{length, drop}
 use Rattle.words.proofs.Laws.Cases.{by_bool}
 use Rattle.refusals.specs.declared.Refusal.{Refusal}
 use Rattle.refusals.specs.declared.Refusal.TheVariants.{NoRoom}
-use Rattle.refusals.specs.declared.Written.TheVariants as written
-use Rattle.refusals.specs.Numbers.{count_of}
+use Rattle.refusals.specs.Numbers.{Written, count_of}
 use Rattle.pkcs7.specs.Pkcs7.{strip}
 use Rattle.ciphers.specs.declared.Cipher.{Cipher}
 use Rattle.ciphers.specs.declared.Cipher.TheVariants.{Aes256, ChaCha20}
@@ -59,7 +59,7 @@ use Rattle.opening.proofs.Laws.Progress.{
 
 -- a refusal in the answer that closes is the whole opener's
 abbrev pub WholeRefuses : Keys → List ℕ → ℕ → Answer → Type 0
-WholeRefuses k f o a = (r : Refusal) → a.written ≡ written.Refused r → Closing r → whole k f o ≡ refused r
+WholeRefuses k f o a = (r : Refusal) → a.written ≡ Err r → Closing r → whole k f o ≡ refused r
 
 refusal_hand : (k : Keys) (f : List ℕ) (o n : ℕ) (b : List ℕ) (q x : Plain) → WholeRefuses k f o (hand n b q x).answer
 unfolding refuse
@@ -119,7 +119,7 @@ close_of-refused k f p t r h =
 -- an answer that is a refusal which closes
 pub record ClosingAnswer (a : Answer) : Type 0 where
   pub refusal : Refusal
-  pub written_is : a.written ≡ written.Refused refusal
+  pub written_is : a.written ≡ Err refusal
   pub closing : Closing refusal
 
 abbrev ClosesBy : Reply Plain → Type 0
@@ -160,7 +160,7 @@ stays_step Ended k f i p t n e = refl
 
 -- from the place p on
 abbrev Moves : ℕ → Reply Plain → Type 0
-Moves p x = x.answer.written ≢ written.Refused NoRoom → x.next.phase ≡ Open → p < x.next.at
+Moves p x = x.answer.written ≢ Err NoRoom → x.next.phase ≡ Open → p < x.next.at
 
 moves_close : (v : Opened) (k : Keys) (i p : ℕ) (t : List ℕ) (n : ℕ) → Moves p (plain_close v k i p t n)
 unfolding plain_close plain refuse
@@ -209,11 +209,11 @@ keeps_step Closed k f i p t n = omega arith
 keeps_step Ended k f i p t n = omega arith
 
 -- a refusal that closes is not 17
-room_refused : (r : Refusal) → Closing r → written.Refused r ≢ written.Refused NoRoom
+room_refused : (r : Refusal) → Closing r → ◌≢◌ {A = Written} (Err r) (Err NoRoom)
 room_refused r c = λ e. c.no_room (cc e)
 
 room_close : (v : Opened) (k : Keys) → length k.nonce ≡ 16 → (f : List ℕ) (i p : ℕ) (t : List ℕ) (n : ℕ)
-    → close_of k f p t ≡ v → 15 ≤ n → (plain_close v k i p t n).answer.written ≢ written.Refused NoRoom
+    → close_of k f p t ≡ v → 15 ≤ n → (plain_close v k i p t n).answer.written ≢ Err NoRoom
 unfolding plain_close refuse
 room_close (refused r) k w f i p t n e l = room_refused r (close_of-refused k f p t r e)
 room_close (opened b) k w f i p t n e l =
@@ -222,7 +222,7 @@ room_close (opened b) k w f i p t n e l =
     (omega (arith, r.short))
 
 room_on : (x : Block) (k : Keys) → length k.nonce ≡ 16 → (f : List ℕ) (i p : ℕ) (t : List ℕ) (n : ℕ)
-    → judge k.base f i p ≡ x → size_at f p + 15 ≤ n → (plain_on x k f i p t n).answer.written ≢ written.Refused NoRoom
+    → judge k.base f i p ≡ x → size_at f p + 15 ≤ n → (plain_on x k f i p t n).answer.written ≢ Err NoRoom
 unfolding plain_on refuse
 room_on (block.Refused r) k w f i p t n e l = room_refused r (judge-refused k.base f i p r e)
 room_on (block.Data s) k w f i p t n e l =
@@ -232,7 +232,7 @@ room_on (block.Data s) k w f i p t n e l =
 room_on block.Closing k w f i p t n e l = room_close (close_of k f p t) k w f i p t n refl (omega arith)
 
 pub room_step : (m : Phase) (k : Keys) → length k.nonce ≡ 16 → (f : List ℕ) (i p : ℕ) (t : List ℕ) (n : ℕ)
-    → size_at f p + 15 ≤ n → (plain_in m k f i p t n).answer.written ≢ written.Refused NoRoom
+    → size_at f p + 15 ≤ n → (plain_in m k f i p t n).answer.written ≢ Err NoRoom
 unfolding plain_in refuse
 room_step Open k w f i p t n l = room_on (judge k.base f i p) k w f i p t n refl l
 room_step Closed k w f i p t n l = λ e. never (cc e)

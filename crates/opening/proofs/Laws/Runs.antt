@@ -13,6 +13,7 @@
 --   run_room                            steps with room enough never answer 17
 -- Not here: one step (Standing, Taken, Progress, Refusals); the theorem (Theorem).
 -- Assumes nothing.
+use Rattle.std.specs.Prelude.{Ok, Err}
 use mathlib.Core.Path.{◌≡◌, refl, sym, ap, ◌∙◌}
 use mathlib.Core.Logic.{◌≢◌}
 use mathlib.Core.Bool.{true}
@@ -25,10 +26,9 @@ use lib.ListN.{length}
 use Rattle.words.proofs.Laws.Cases.{by_bool}
 use Rattle.refusals.specs.declared.Refusal.{Refusal}
 use Rattle.refusals.specs.declared.Refusal.TheVariants.{NoRoom}
-use Rattle.refusals.specs.declared.Written.{Written}
-use Rattle.refusals.specs.declared.Written.TheVariants as written
+use Rattle.refusals.specs.Numbers.{Written}
 use Rattle.refusals.specs.Limits.{file_limit}
-use Rattle.refusals.specs.Numbers.{of_written, count_of}
+use Rattle.refusals.specs.Numbers.{number_of, count_of}
 use Rattle.refusals.proofs.Laws.Numbers.{of_refusal_17}
 use Rattle.opening.specs.declared.Keys.{Keys}
 use Rattle.opening.specs.declared.Phase.{Phase}
@@ -174,7 +174,7 @@ closed_next k f q n e = closed_step q.phase k f q.number q.at q.text n e
 pub record ClosedRun (l : List Answer) : Type 0 where
   pub refusal : Refusal
   pub closing : Closing refusal
-  pub given_by : Some (λ (a : Answer). a.written ≡ written.Refused refusal) l
+  pub given_by : Some (λ (a : Answer). a.written ≡ Err refusal) l
 
 closed_run_here : (a : Answer) (l : List Answer) → ClosingAnswer a → ClosedRun (a ∷ l)
 closed_run_here a l c = record { refusal = c.refusal; closing = c.closing; given_by = here c.written_is }
@@ -224,7 +224,7 @@ run_open k f q rooms c = by_phase q.phase refl
         let o : q.phase ≢ Open = λ g. never (cc) in
         sym (run_stays k f q rooms o) ∙ c
 
-moves_next : (k : Keys) (f : List ℕ) (q : Plain) (n : ℕ) → (plain_step k f q n).answer.written ≢ written.Refused NoRoom
+moves_next : (k : Keys) (f : List ℕ) (q : Plain) (n : ℕ) → (plain_step k f q n).answer.written ≢ Err NoRoom
     → (plain_step k f q n).next.phase ≡ Open → q.at < (plain_step k f q n).next.at
 unfolding plain_step
 moves_next k f q n = moves_step q.phase k f q.number q.at q.text n
@@ -234,11 +234,11 @@ unfolding plain_step
 keeps_next k f q n = keeps_step q.phase k f q.number q.at q.text n
 
 -- an answer whose number is 17
-no_room_number : (w : Written) → of_written w ≡ 17 → w ≡ written.Refused NoRoom
-no_room_number (written.Wrote n) e = absurd (omega arith)
-no_room_number (written.Refused r) e = ap (λ (x : Refusal). written.Refused x) (of_refusal_17 r e)
+no_room_number : (w : Written) → number_of w ≡ 17 → w ≡ Err NoRoom
+no_room_number (Ok n) e = absurd (omega arith)
+no_room_number (Err r) e = ap (λ (x : Refusal). Err x) (of_refusal_17 r e)
 
-number_no_room : (w : Written) → (of_written w ≡ 17 → ⊥) → w ≢ written.Refused NoRoom
+number_no_room : (w : Written) → (number_of w ≡ 17 → ⊥) → w ≢ Err NoRoom
 number_no_room w h e = h (rw e refl)
 
 pub run_moves : (k : Keys) (f : List ℕ) (q : Plain) (rooms : List ℕ) → (after (plain_step k f) q rooms).phase ≡ Open
@@ -248,19 +248,19 @@ run_moves k f q [] c = omega arith
 run_moves k f q (n ∷ ns) c =
     let o : (plain_step k f q n).next.phase ≡ Open = run_open k f (plain_step k f q n).next ns c in
     let more = run_moves k f (plain_step k f q n).next ns c in
-    by_bool (eqb (of_written (plain_step k f q n).answer.written) 17)
+    by_bool (eqb (number_of (plain_step k f q n).answer.written) 17)
     (λ e. rw e (omega (arith, keeps_next k f q n, more)))
     (λ e.
     let z = number_no_room (plain_step k f q n).answer.written (eqb-false _ 17 e) in
     rw e (omega (arith, moves_next k f q n z o, more)))
 
-pub with_room_all : (l : List Answer) → Each (λ (a : Answer). a.written ≢ written.Refused NoRoom) l
+pub with_room_all : (l : List Answer) → Each (λ (a : Answer). a.written ≢ Err NoRoom) l
     → with_room l ≡ length l
 unfolding with_room
 with_room_all [] h = refl
 with_room_all (a ∷ l) h =
-    let z : of_written a.written ≡ 17 → ⊥ = λ e. each_head h (no_room_number a.written e) in
-    rw (ne_eqb (of_written a.written) 17 z) (ap suc (with_room_all l (each_tail h)))
+    let z : number_of a.written ≡ 17 → ⊥ = λ e. each_head h (no_room_number a.written e) in
+    rw (ne_eqb (number_of a.written) 17 z) (ap suc (with_room_all l (each_tail h)))
 
 pub length-answers : {A : Type 0} (step : A → ℕ → Reply A) (a : A) (rooms : List ℕ)
     → length (answers step a rooms) ≡ length rooms
@@ -269,12 +269,12 @@ length-answers step a [] = refl
 length-answers step a (n ∷ ns) = ap suc (length-answers step (step a n).next ns)
 
 room_next : (k : Keys) → length k.nonce ≡ 16 → (f : List ℕ) (q : Plain) (n : ℕ) → size_at f q.at + 15 ≤ n
-    → (plain_step k f q n).answer.written ≢ written.Refused NoRoom
+    → (plain_step k f q n).answer.written ≢ Err NoRoom
 unfolding plain_step
 room_next k w f q n = room_step q.phase k w f q.number q.at q.text n
 
 pub run_room : (k : Keys) → length k.nonce ≡ 16 → (f : List ℕ) (q : Plain) (rooms : List ℕ) → Roomy k f q rooms
-    → Each (λ (a : Answer). a.written ≢ written.Refused NoRoom) (answers (plain_step k f) q rooms)
+    → Each (λ (a : Answer). a.written ≢ Err NoRoom) (answers (plain_step k f) q rooms)
 unfolding answers Roomy
 run_room k w f q [] h = none
 run_room k w f q (n ∷ ns) h = both (room_next k w f q n h.0) (run_room k w f (plain_step k f q n).next ns h.1)

@@ -21,8 +21,7 @@ use borrow.Author.Tests.{leb-true, ltb-false, eqb-true, eq-eqb, ne_eqb, le-leb, 
 use Rattle.words.specs.Endian.{le}
 use Rattle.words.proofs.Laws.Cases.{by_bool}
 use Rattle.refusals.specs.declared.Refusal.{Refusal}
-use Rattle.refusals.specs.declared.Outcome.{Outcome}
-use Rattle.refusals.specs.declared.Outcome.TheVariants as outcome
+use Rattle.refusals.specs.Numbers.{Outcome}
 use Rattle.refusals.specs.Limits.{file_limit}
 use Rattle.fields.specs.Fields.{bytes_at, end_of, given}
 use Rattle.ciphers.specs.Ciphers.{cipher_of, nonce_length}
@@ -72,7 +71,7 @@ pub record IsJudged (s : List ℕ) (f : Fields) (minor end : ℕ) (h : Header) :
   pub compression_is : le 4 s f.compression.start ≡ 0
   pub nonce_is : f.nonce.length ≡ nonce_length h.cipher
   pub kdf_is : kdf_of s f.kdf ≡ Ok h.kdf
-  pub custom_is : custom_of s f.custom ≡ outcome.Accepted
+  pub custom_is : custom_of s f.custom ≡ Ok tt
   pub header_is : h ≡ header_of f minor end h.cipher h.kdf
 
 module _ (s : List ℕ) (f : Fields) (minor end : ℕ) (h : Header) where
@@ -86,8 +85,8 @@ module _ (s : List ℕ) (f : Fields) (minor end : ℕ) (h : Header) where
       → IsJudged s f minor end h
   unfolding figures_in
   figures_in-accepts c (Err r) o t u v w x y e = absurd (refused_never r h e)
-  figures_in-accepts c (Ok k) (outcome.Refused r) t u v w x y e = absurd (refused_never r h e)
-  figures_in-accepts c (Ok k) outcome.Accepted t u v w x y e =
+  figures_in-accepts c (Ok k) (Err r) t u v w x y e = absurd (refused_never r h e)
+  figures_in-accepts c (Ok k) (Ok tt) t u v w x y e =
       let q : header_of f minor end c k ≡ h = cc in
       rw (← q) (record {
         complete_is = t;
@@ -124,7 +123,7 @@ pub accepts-judged : (s : List ℕ) (f : Fields) (minor end : ℕ) (c : Cipher) 
     → le 4 s f.compression.start ≡ 0
     → f.nonce.length ≡ nonce_length c
     → kdf_of s f.kdf ≡ Ok k
-    → custom_of s f.custom ≡ outcome.Accepted
+    → custom_of s f.custom ≡ Ok tt
     → judged s f minor end ≡ Ok (header_of f minor end c k)
 unfolding judged identified figures figures_in
 accepts-judged s f minor end c k t u v w x y =

@@ -10,18 +10,18 @@ returns-in_err-kdf c =
     let r = err_from_is_err_and c.from_residual.result c.from_residual.ensures.1 in
     rw (r.1, r.2, sym c.read.ensures.value ∙ c.in_err-kdf.was)
 
-pub returns-in-Refused : goal.returns-in-Refused
+pub returns-in-Err : goal.returns-in-Err
 unfolding figures figures_in
-returns-in-Refused c =
+returns-in-Err c =
     rw (
       sym c.read.ensures.value ∙ c.in_ok-kdf.was,
-      sym c.custom_of.ensures ∙ c.in-Refused.is,
+      sym c.custom_of.ensures ∙ c.in-Err.is,
     )
 
-pub returns-in-Accepted : goal.returns-in-Accepted
+pub returns-in-Ok : goal.returns-in-Ok
 unfolding figures figures_in
-returns-in-Accepted c =
+returns-in-Ok c =
     rw (
       sym c.read.ensures.value ∙ c.in_ok-kdf.was,
-      sym c.custom_of.ensures ∙ c.in-Accepted.is,
+      sym c.custom_of.ensures ∙ c.in-Ok.is,
     )

@@ -16,8 +16,7 @@ use lib.ListN.{length, get_or, length-take, length-drop}
 use Rattle.words.specs.Endian.{le}
 use Rattle.words.proofs.Laws.Cases.{by_bool}
 use Rattle.refusals.specs.Limits.{file_limit}
-use Rattle.refusals.specs.declared.Outcome.{Outcome}
-use Rattle.refusals.specs.declared.Outcome.TheVariants as outcome
+use Rattle.refusals.specs.Numbers.{Outcome}
 use Rattle.fields.specs.Fields.{bytes_at, end_of, begin}
 use Rattle.fields.specs.declared.Place.{Place}
 use Rattle.refusals.specs.declared.Refusal.{Refusal}
@@ -120,8 +119,8 @@ module _ (s : List ℕ) (f : Fields) (minor end : ℕ) (e : IsEnded s 12 f end) 
       → Lies (length s) (figures_in f minor end c k o)
   unfolding figures_in
   figures_in_lies c (Err r) o x y = x
-  figures_in_lies c (Ok k) (outcome.Refused r) x y = y
-  figures_in_lies c (Ok k) outcome.Accepted x y = omega arith
+  figures_in_lies c (Ok k) (Err r) x y = y
+  figures_in_lies c (Ok k) (Ok tt) x y = omega arith
 
   identified_lies : (i : Option Cipher) → Lies (length s) (identified s f minor end i)
   unfolding identified figures

@@ -20,8 +20,7 @@ use Rattle.words.proofs.Laws.Cases.{by_bool, and_true}
 use Rattle.slices.specs.Same.{same}
 use Rattle.slices.proofs.Laws.Same.{same_refl}
 use Rattle.refusals.specs.Limits.{file_limit}
-use Rattle.refusals.specs.declared.Outcome.{Outcome}
-use Rattle.refusals.specs.declared.Outcome.TheVariants as outcome
+use Rattle.refusals.specs.Numbers.{Outcome}
 use Rattle.fields.specs.Fields.{bytes_at, end_of, given, begin, fits}
 use Rattle.fields.specs.declared.Place.{Place}
 use Rattle.refusals.specs.declared.Refusal.{Refusal}
@@ -203,8 +202,8 @@ module _ (s : List ℕ) (f : Fields) (minor end : ℕ) (e : Ends s f end) where
       → Points s (figures_in f minor end c k o)
   unfolding figures_in
   figures_in_points c (Err r) o x y = x
-  figures_in_points c (Ok k) (outcome.Refused r) x y = y
-  figures_in_points c (Ok k) outcome.Accepted x y = tt
+  figures_in_points c (Ok k) (Err r) x y = y
+  figures_in_points c (Ok k) (Ok tt) x y = tt
 
   identified_points : (i : Option Cipher) → cipher_of (bytes_at s f.cipher) ≡ i → Complete f
       → Points s (identified s f minor end i)

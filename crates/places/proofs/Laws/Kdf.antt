@@ -14,8 +14,7 @@ use lib.ListN.{length}
 use Rattle.words.specs.Endian.{le}
 use Rattle.words.proofs.Laws.Cases.{by_bool}
 use Rattle.refusals.specs.Limits.{rounds_limit, rounds_least, argon2_fits}
-use Rattle.refusals.specs.declared.Outcome.{Outcome}
-use Rattle.refusals.specs.declared.Outcome.TheVariants as outcome
+use Rattle.refusals.specs.Numbers.{Outcome}
 use Rattle.fields.specs.Fields.{bytes_at, given}
 use Rattle.fields.specs.declared.Place.{Place}
 use Rattle.dictionary.specs.Dictionary.{verdict}
@@ -42,8 +41,8 @@ Lies n (Ok k) = 0 ≤ 0
 Lies n (Err r) = LiesIn n r
 
 abbrev pub LiesOutcome : ℕ → Outcome → Type 0
-LiesOutcome n outcome.Accepted = 0 ≤ 0
-LiesOutcome n (outcome.Refused r) = LiesIn n r
+LiesOutcome n (Ok tt) = 0 ≤ 0
+LiesOutcome n (Err r) = LiesIn n r
 
 module _ (d : List ℕ) (p : Place) (n : ℕ) (ends : p.start + length d < n) where
   fault_in-lt : (name : List ℕ) (f : Result (Option Value) Refusal) → f ≡ searched d name → fault_in p name f < n

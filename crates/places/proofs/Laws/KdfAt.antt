@@ -21,8 +21,7 @@ use Rattle.slices.specs.Same.{same}
 use Rattle.slices.proofs.Laws.Same.{same_true}
 use Rattle.refusals.specs.Limits.{rounds_limit, rounds_least, argon2_fits}
 use Rattle.refusals.specs.declared.Refusal.TheVariants.{BrokenDictionary}
-use Rattle.refusals.specs.declared.Outcome.{Outcome}
-use Rattle.refusals.specs.declared.Outcome.TheVariants as outcome
+use Rattle.refusals.specs.Numbers.{Outcome}
 use Rattle.fields.specs.Fields.{bytes_at, given}
 use Rattle.fields.specs.declared.Place.{Place}
 use Rattle.fields.specs.declared.SizeRule.{SizeRule}
@@ -118,8 +117,8 @@ Points s (Ok k) = Unit
 Points s (Err r) = PointsTo s r
 
 abbrev pub PointsOutcome : List ℕ → Outcome → Type 0
-PointsOutcome s outcome.Accepted = Unit
-PointsOutcome s (outcome.Refused r) = PointsTo s r
+PointsOutcome s (Ok tt) = Unit
+PointsOutcome s (Err r) = PointsTo s r
 
 module _ (s : List ℕ) (p : Place) (m : Met s 12 11 p) where
   figures_points : (v : Variant) → Complete (bytes_at s p)

@@ -21,8 +21,7 @@ use Rattle.std.specs.Prelude.{Option, Some, None, Result, Ok, Err}
 use Rattle.words.proofs.Laws.Cases.{by_bool}
 use Rattle.refusals.specs.declared.Refusal.{Refusal}
 use Rattle.refusals.specs.declared.Refusal.TheVariants.{TooLong, CutShort, WrongSignature, WrongVersion, WrongSize, Repeated, UnknownField, Absent, Unlisted, BrokenDictionary, TooManyRounds, HeaderHash, HeaderTag, BlockTag, TrailingBytes, WrongPadding, NoRoom, WrongCredential, OutOfSequence, TooFewRounds, FigureOutside}
-use Rattle.refusals.specs.declared.Written.{Written}
-use Rattle.refusals.specs.declared.Written.TheVariants as written
+use Rattle.refusals.specs.Numbers.{Written}
 use Rattle.refusals.specs.Numbers.{place_of, unplaced}
 use Rattle.refusals.specs.Limits.{file_limit, payload_limit, rounds_limit, rounds_least, argon2_fits}
 use Rattle.ciphers.specs.Ciphers.{cipher_of, nonce_length}
@@ -128,8 +127,8 @@ unfolding whole_in whole
 whole_zero k f p n = roomed-zero n (whole k f p) (walk-zero (suc (length f)) k f 0 p [])
 
 abbrev pub ZeroWritten : Written → Type 0
-ZeroWritten (written.Wrote n) = 0 ≤ 0
-ZeroWritten (written.Refused r) = place_of r ≡ 0
+ZeroWritten (Ok n) = 0 ≤ 0
+ZeroWritten (Err r) = place_of r ≡ 0
 
 hand-zero : (n : ℕ) (b : List ℕ) (o q : Opener) → ZeroWritten (hand n b o q).answer.written
 unfolding hand refuse

@@ -12,7 +12,6 @@ use Prim.Native.Nat.{ℕ}
 use borrow.Author.Tests.{eq-eqb}
 use Rattle.slices.proofs.Laws.Same.{same_refl}
 use Rattle.refusals.specs.declared.Refusal.{Refusal}
-use Rattle.refusals.specs.declared.Outcome.TheVariants as outcome
 use Rattle.fields.specs.Fields.{bytes_at}
 use Rattle.fields.specs.declared.Place.{Place}
 use Rattle.kdf_dictionary.specs.Kdf.{aes_kdf_uuid, salt_name, rounds_name}
@@ -61,7 +60,7 @@ module _ (rounds : ℕ) (s : List ℕ) (i : Begins rounds s) where
       i.nonce_long e
 
   pub begins_accepts : (k : Kdf) → kdf_of s i.fields.kdf ≡ Ok k
-      → custom_of s i.fields.custom ≡ outcome.Accepted
+      → custom_of s i.fields.custom ≡ Ok tt
       → header s ≡ Ok (header_of i.fields i.minor i.end i.cipher k)
   begins_accepts k e c =
       begins_judged

@@ -16,12 +16,11 @@ use Rattle.words.proofs.Laws.Cases.{by_bool}
 use Rattle.refusals.specs.Numbers.{count_of}
 use Rattle.refusals.specs.declared.Refusal.{Refusal}
 use Rattle.refusals.specs.declared.Refusal.TheVariants.{TooLong, NoRoom}
-use Rattle.refusals.specs.declared.Written.TheVariants as written
 use Rattle.ciphers.specs.declared.Cipher.{Cipher}
 use Rattle.std.specs.Prelude.{Result, Ok, Err}
 use Rattle.writer.specs.Written.{Figures, Sizes, settled, file_cut, checked_of, writing_by, writing_with, shown_by, shown_with}
 
-wrote_never : (r : Refusal) (m : ℕ) → written.Refused r ≡ written.Wrote m → ⊥
+wrote_never : (r : Refusal) (m : ℕ) → Err r ≡ Ok m → ⊥
 wrote_never r m e = let z : ◌≡◌ {A = ℕ} 0 1 = cc in omega arith
 
 -- a payload of l bytes and its file of f bytes
@@ -31,7 +30,7 @@ record Settled (s : Sizes) (l f n m : ℕ) : Type 0 where
   room : f ≤ n
   count : f ≡ m
 
-settled_says : (s : Sizes) (l f n m : ℕ) → settled s l f n ≡ written.Wrote m → Settled s l f n m
+settled_says : (s : Sizes) (l f n m : ℕ) → settled s l f n ≡ Ok m → Settled s l f n m
 unfolding settled
 settled_says s l f n m =
     by_bool (leb l s.payload)
@@ -63,13 +62,13 @@ pub record Success (s : Sizes) (g : Figures) (t b : List ℕ) (n m : ℕ) : Type
 
 -- the bytes that a success shows
 pub shown-wrote : (s : Sizes) (g : Figures) (c : Cipher) (t b : List ℕ) (n m : ℕ) → checked_of g ≡ Ok c
-    → writing_with s g t b n ≡ written.Wrote m
+    → writing_with s g t b n ≡ Ok m
     → shown_with s g t b n ≡ file_cut s.block g c t b
 unfolding shown_with shown_by
 shown-wrote s g c t b n m e h = rw (e, h)
 
 success_by : (s : Sizes) (x : Result Cipher Refusal) (g : Figures) (t b : List ℕ) (n m : ℕ) → checked_of g ≡ x
-    → writing_with s g t b n ≡ written.Wrote m → writing_by s x g t b n ≡ written.Wrote m
+    → writing_with s g t b n ≡ Ok m → writing_by s x g t b n ≡ Ok m
     → Success s g t b n m
 unfolding writing_by
 success_by s (Err r) g t b n m e h = λ q. absurd (wrote_never r m q)
@@ -85,7 +84,7 @@ success_by s (Ok c) g t b n m e h = λ q.
       bytes = shown-wrote s g c t b n m e h;
     }
 
-pub success : (s : Sizes) (g : Figures) (t b : List ℕ) (n m : ℕ) → writing_with s g t b n ≡ written.Wrote m
+pub success : (s : Sizes) (g : Figures) (t b : List ℕ) (n m : ℕ) → writing_with s g t b n ≡ Ok m
     → Success s g t b n m
 unfolding writing_with
 success s g t b n m h = success_by s (checked_of g) g t b n m refl h h

@@ -10,6 +10,7 @@
 --   no_ended_tag          of two tags, neither is the ended mark's
 -- Not here: one step (crate opening).
 -- Assumes nothing.
+use Rattle.std.specs.Prelude.{Ok, Err}
 use mathlib.Core.Path.{◌≡◌, refl, sym, ap, ◌∙◌}
 use mathlib.Core.Logic.{◌≢◌, ◌⊎◌, inl, inr}
 use mathlib.Core.List.{List, [], ◌++◌, append_assoc, append-nil}
@@ -27,10 +28,8 @@ use Rattle.slices.proofs.Laws.Over.{over_nil, over_tail, take_over, length_over}
 use Rattle.refusals.specs.Numbers.{count_of}
 use Rattle.refusals.specs.declared.Refusal.{Refusal}
 use Rattle.refusals.specs.declared.Refusal.TheVariants.{CutShort}
-use Rattle.refusals.specs.declared.Outcome.{Outcome}
-use Rattle.refusals.specs.declared.Outcome.TheVariants as outcome
-use Rattle.refusals.specs.declared.Written.{Written}
-use Rattle.refusals.specs.declared.Written.TheVariants as written
+use Rattle.refusals.specs.Numbers.{Outcome}
+use Rattle.refusals.specs.Numbers.{Written}
 use Rattle.opening.specs.declared.Phase.{Phase}
 use Rattle.opening.specs.declared.Phase.TheVariants.{Open, Closed, Ended}
 use Rattle.opening.specs.declared.Opener.{Opener}
@@ -89,28 +88,28 @@ going_start f d o =
 
 -- a step's part in the steps
 pub after_refused : (f : List ℕ) (o : Opener) (left n : ℕ) (r : Refusal) → 0 < left
-    → (step_of f o n).answer.written ≡ written.Refused r
-    → stepping left f o n ≡ record { outcome = outcome.Refused r; bytes = [] }
+    → (step_of f o n).answer.written ≡ Err r
+    → stepping left f o n ≡ record { outcome = Err r; bytes = [] }
 unfolding stepping go_on
 after_refused f o zero n r h e = absurd (omega arith)
 after_refused f o (suc m) n r h e = rw e
 
 pub after_closing : (f : List ℕ) (o : Opener) (left n c : ℕ) → 0 < left
-    → (step_of f o n).answer.written ≡ written.Wrote c → (step_of f o n).next.phase ≡ Ended
-    → stepping left f o n ≡ record { outcome = outcome.Accepted; bytes = (step_of f o n).answer.bytes }
+    → (step_of f o n).answer.written ≡ Ok c → (step_of f o n).next.phase ≡ Ended
+    → stepping left f o n ≡ record { outcome = Ok tt; bytes = (step_of f o n).answer.bytes }
 unfolding stepping go_on
 after_closing f o zero n c h e g = absurd (omega arith)
 after_closing f o (suc m) n c h e g = rw (e, g)
 
 going_on : (c : ℕ) (p : Phase) (b : List ℕ) (more : Ran) → p ≢ Ended
-    → go_on (written.Wrote c) p b more ≡ record { outcome = more.outcome; bytes = b ++ more.bytes }
+    → go_on (Ok c) p b more ≡ record { outcome = more.outcome; bytes = b ++ more.bytes }
 unfolding go_on
 going_on c Open b more g = refl
 going_on c Closed b more g = refl
 going_on c Ended b more g = absurd (g refl)
 
 pub after_data : (f : List ℕ) (o : Opener) (left n c : ℕ) → 0 < left
-    → (step_of f o n).answer.written ≡ written.Wrote c → (step_of f o n).next.phase ≢ Ended
+    → (step_of f o n).answer.written ≡ Ok c → (step_of f o n).next.phase ≢ Ended
     → stepping left f o n
     ≡ record {
       outcome = (stepping (left - 1) f (step_of f o n).next (n - length (step_of f o n).answer.bytes)).outcome;
@@ -205,9 +204,9 @@ module _ (f d : List ℕ) (all : Ran) (o : Opener) (at left : ℕ) (out : List �
       let g = handed-fits in
       as_long f d all o at left out y (length out - at) ys _ refl v (simp length-append (omega (arith, t, g)))
 
-  pub on_refusal : (r : Refusal) → (step_of f o (lent at out)).answer.written ≡ written.Refused r
+  pub on_refusal : (r : Refusal) → (step_of f o (lent at out)).answer.written ≡ Err r
       → record {
-        value : written.Refused r ≡ written_of all;
+        value : Err r ≡ written_of all;
         out_after : take at out ++ (ys ++ drop (length out - at) (drop at out)) ≡ over all.bytes d;
       }
   unfolding written_by
@@ -216,22 +215,22 @@ module _ (f d : List ℕ) (all : Ran) (o : Opener) (at left : ℕ) (out : List �
       let x = after_refused f o left (lent at out) r h e in
       going_ends f d all o at left out y (length out - at) ys [] refl
       (v ∙ ap (λ (b : List ℕ). over b (tail at out)) n)
-      (outcome.Refused r) (ap (λ (m : ℕ). stepping left f o m) (sym lent_is) ∙ x)
+      (Err r) (ap (λ (m : ℕ). stepping left f o m) (sym lent_is) ∙ x)
 
-  counted_is : (c : ℕ) → (step_of f o (lent at out)).answer.written ≡ written.Wrote c
+  counted_is : (c : ℕ) → (step_of f o (lent at out)).answer.written ≡ Ok c
       → length (step_of f o (lent at out)).answer.bytes ≡ c
   counted_is c e = sym (step_of_kept f o (lent at out)).counted ∙ ap count_of e
 
-  pub count_fits : (c : ℕ) → (step_of f o (lent at out)).answer.written ≡ written.Wrote c → at + c ≤ length d
+  pub count_fits : (c : ℕ) → (step_of f o (lent at out)).answer.written ≡ Ok c → at + c ≤ length d
   count_fits c e =
       let m = counted_is c e in
       let g = handed-fits in
       omega (arith, m, g)
 
-  pub on_closing : (c : ℕ) → (step_of f o (lent at out)).answer.written ≡ written.Wrote c
+  pub on_closing : (c : ℕ) → (step_of f o (lent at out)).answer.written ≡ Ok c
       → (step_of f o (lent at out)).next.phase ≡ Ended
       → record {
-        value : written.Wrote (at + c) ≡ written_of all;
+        value : Ok (at + c) ≡ written_of all;
         out_after : take at out ++ (ys ++ drop (length out - at) (drop at out)) ≡ over all.bytes d;
       }
   unfolding written_by
@@ -242,11 +241,11 @@ module _ (f d : List ℕ) (all : Ran) (o : Opener) (at left : ℕ) (out : List �
       let m = counted_is c e in
       let b = (step_of f o (lent at out)).answer.bytes in
       let n : length (take at out ++ b) ≡ at + c = simp length-append (omega (arith, m, t)) in
-      let x = going_ends f d all o at left out y (length out - at) ys _ refl v outcome.Accepted
+      let x = going_ends f d all o at left out y (length out - at) ys _ refl v (Ok tt)
       (ap (λ (z : ℕ). stepping left f o z) (sym lent_is) ∙ after_closing f o left (lent at out) c h e g) in
-      record { value = ap (λ (z : ℕ). written.Wrote z) (sym n) ∙ x.value; out_after = x.out_after }
+      record { value = ap (λ (z : ℕ). Ok z) (sym n) ∙ x.value; out_after = x.out_after }
 
-  pub on_data : (c : ℕ) (next : Opener) → (step_of f o (lent at out)).answer.written ≡ written.Wrote c
+  pub on_data : (c : ℕ) (next : Opener) → (step_of f o (lent at out)).answer.written ≡ Ok c
       → next ≡ (step_of f o (lent at out)).next → next.phase ≢ Ended
       → Going f d all next (at + c) (left - 1) (take at out ++ (ys ++ drop (length out - at) (drop at out)))
   on_data c next e i g =
@@ -263,7 +262,7 @@ module _ (f d : List ℕ) (all : Ran) (o : Opener) (at left : ℕ) (out : List �
 pub going_none : (f d : List ℕ) (all : Ran) (o : Opener) (at left : ℕ) (out : List ℕ) → Going f d all o at left out
     → left ≡ 0
     → record {
-      value : written.Refused (CutShort 0) ≡ written_of all;
+      value : Err (CutShort 0) ≡ written_of all;
       out_after : out ≡ over all.bytes d;
     }
 unfolding stepping written_by
@@ -274,16 +273,16 @@ going_none f d all o at zero out y e = record {
 going_none f d all o at (suc m) out y e = absurd (omega arith)
 
 pub ran_refused : (t f had : List ℕ) (n : ℕ) (o : Outcome) (r : Refusal) → o ≡ outcome_of (start t f)
-    → o ≡ outcome.Refused r
+    → o ≡ Err r
     → record {
-      value : written.Refused r ≡ written_of (ran_from t f n);
+      value : Err r ≡ written_of (ran_from t f n);
       out_after : had ≡ over (ran_from t f n).bytes had;
     }
 unfolding ran_from ran_by written_by
 ran_refused t f had n o r e h = rw (sym e ∙ h) (record { value = refl; out_after = sym (over_nil had) })
 
 pub ran_accepted : (t f had out : List ℕ) (n : ℕ) (w : Written) (o : Outcome) (first : Opener)
-    → o ≡ outcome_of (start t f) → first ≡ state_of (start t f) → o ≡ outcome.Accepted
+    → o ≡ outcome_of (start t f) → first ≡ state_of (start t f) → o ≡ Ok tt
     → w ≡ written_of (stepping (length f) f first n)
     → out ≡ over (stepping (length f) f first n).bytes had
     → record {

@@ -15,12 +15,12 @@ loop-init c =
     let e : length f - 0 ≡ length f = omega arith in
     rw e (going_start _ _ _)
 
-pub returns-in-Refused : goal.returns-in-Refused
-returns-in-Refused c =
+pub returns-in-Err : goal.returns-in-Err
+returns-in-Err c =
     let l = c.loop in
     let a = c.args in
     on_refusal a.f.now a.out.now _ l.o l.at (length a.f.now - l.counter) l.out l.invariant
-    (search rules) _ c.step-s.ensures.out_after _ (sym c.step-s.ensures.answer_value ∙ c.in-Refused.is)
+    (search rules) _ c.step-s.ensures.out_after _ (sym c.step-s.ensures.answer_value ∙ c.in-Err.is)
 
 pub overflow_add-result : goal.overflow_add-result
 overflow_add-result c =
@@ -28,7 +28,7 @@ overflow_add-result c =
     let a = c.args in
     let g = count_fits a.f.now a.out.now _ l.o l.at (length a.f.now - l.counter) l.out l.invariant
     (search rules) _ c.step-s.ensures.out_after _
-    (sym c.step-s.ensures.answer_value ∙ c.in-Wrote.is) in
+    (sym c.step-s.ensures.answer_value ∙ c.in-Ok.is) in
     omega (arith, g)
 
 pub returns-in-Ended : goal.returns-in-Ended
@@ -37,7 +37,7 @@ returns-in-Ended c =
     let a = c.args in
     on_closing a.f.now a.out.now _ l.o l.at (length a.f.now - l.counter) l.out l.invariant
     (search rules) _ c.step-s.ensures.out_after _
-    (sym c.step-s.ensures.answer_value ∙ c.in-Wrote.is)
+    (sym c.step-s.ensures.answer_value ∙ c.in-Ok.is)
     (sym (ap (λ (z : Opener). z.phase) c.step-s.ensures.next_value) ∙ c.in-Ended.is)
 
 pub overflow_add-at : goal.overflow_add-at
@@ -45,7 +45,7 @@ overflow_add-at c =
     let l = c.loop in
     let a = c.args in
     let g = count_fits a.f.now a.out.now _ l.o l.at (length a.f.now - l.counter) l.out l.invariant
-    (search rules) _ c.step-s.ensures.out_after _ (sym c.step-s.ensures.answer_value ∙ c.in-Wrote.is) in
+    (search rules) _ c.step-s.ensures.out_after _ (sym c.step-s.ensures.answer_value ∙ c.in-Ok.is) in
     omega (arith, g)
 
 pub loop-preserved : goal.loop-preserved
@@ -55,7 +55,7 @@ loop-preserved c =
     let e : length a.f.now - (l.counter + 1) ≡ length a.f.now - l.counter - 1 = omega arith in
     rw e
     (on_data a.f.now a.out.now _ l.o l.at (length a.f.now - l.counter) l.out l.invariant
-    (search rules) _ c.step-s.ensures.out_after _ _ (sym c.step-s.ensures.answer_value ∙ c.in-Wrote.is)
+    (search rules) _ c.step-s.ensures.out_after _ _ (sym c.step-s.ensures.answer_value ∙ c.in-Ok.is)
     c.step-s.ensures.next_value c.in_default.not-Ended)
 
 pub returns : goal.returns

@@ -18,7 +18,6 @@ use native.Mathlib.Omega.{arith}
 use lib.ListN.{length, drop, replicate, length-drop}
 use lib.Seq.{length-take-le}
 use Rattle.refusals.specs.declared.Refusal.{Refusal}
-use Rattle.refusals.specs.declared.Outcome.TheVariants as outcome
 use Rattle.refusals.specs.Limits.{rounds_limit}
 use Rattle.fields.specs.Fields.{bytes_at, end_of}
 use Rattle.fields.specs.declared.Place.{Place}
@@ -98,7 +97,7 @@ module _ (k : Kdf) (key f m : List ℕ) where
   pub key-rounds : (a : AesKdf) (t : List ℕ) → k ≡ kdf.AesKdf a
       → t ≡ transformed_key key (bytes_at f a.seed) a.rounds
       → record {
-        value : record { outcome = outcome.Accepted; key = t } ≡ key_of k key f (length m);
+        value : record { outcome = Ok tt; key = t } ≡ key_of k key f (length m);
         memory_after : m ≡ left_after k key f m;
       }
   unfolding key_of left_after

@@ -20,10 +20,8 @@ use Rattle.slices.specs.Over.{over}
 use Rattle.slices.proofs.Laws.Over.{over_nil, take_over}
 use Rattle.refusals.specs.declared.Refusal.{Refusal}
 use Rattle.refusals.specs.declared.Refusal.TheVariants.{TooLong}
-use Rattle.refusals.specs.declared.Outcome.{Outcome}
-use Rattle.refusals.specs.declared.Outcome.TheVariants as outcome
-use Rattle.refusals.specs.declared.Written.{Written}
-use Rattle.refusals.specs.declared.Written.TheVariants as written
+use Rattle.refusals.specs.Numbers.{Outcome}
+use Rattle.refusals.specs.Numbers.{Written}
 use Rattle.refusals.specs.Limits.{program_limit}
 use Rattle.keys.specs.Kdbx4Keys as keys
 use Rattle.argon2.specs.declared.Transformed.{Transformed}
@@ -62,23 +60,23 @@ unfolding document_of
 document_found x n i e = rw e
 
 -- the steps' answer is a refusal's
-written_refused : (o : Outcome) (n : ℕ) (r : Refusal) → written.Refused r ≡ written_by o n → o ≡ outcome.Refused r
+written_refused : (o : Outcome) (n : ℕ) (r : Refusal) → Err r ≡ written_by o n → o ≡ Err r
 unfolding written_by
-written_refused (outcome.Refused x) n r e = cc
-written_refused outcome.Accepted n r e = let z : ◌≡◌ {A = ℕ} 0 1 = cc in absurd (omega arith)
+written_refused (Err x) n r e = cc
+written_refused (Ok tt) n r e = let z : ◌≡◌ {A = ℕ} 0 1 = cc in absurd (omega arith)
 
 -- .. or the count of all bytes
-written_wrote : (o : Outcome) (n m : ℕ) → written.Wrote m ≡ written_by o n → (o ≡ outcome.Accepted) × (m ≡ n)
+written_wrote : (o : Outcome) (n m : ℕ) → Ok m ≡ written_by o n → (o ≡ Ok tt) × (m ≡ n)
 unfolding written_by
-written_wrote (outcome.Refused x) n m e = let z : ◌≡◌ {A = ℕ} 0 1 = cc in absurd (omega arith)
-written_wrote outcome.Accepted n m e = (refl, cc)
+written_wrote (Err x) n m e = let z : ◌≡◌ {A = ℕ} 0 1 = cc in absurd (omega arith)
+written_wrote (Ok tt) n m e = (refl, cc)
 
 module _ (t f d : List ℕ) (n : ℕ) (w : Written) (e : w ≡ written_of (ran_from t f n)) where
-  pub steps_refused : (r : Refusal) → w ≡ written.Refused r → Refused r ≡ (opening t f n).answer
+  pub steps_refused : (r : Refusal) → w ≡ Err r → Refused r ≡ (opening t f n).answer
   unfolding opening answer_of
   steps_refused r g = rw (written_refused (ran_from t f n).outcome (length (ran_from t f n).bytes) r (sym g ∙ e))
 
-  pub steps_opened : (m : ℕ) (out p : List ℕ) (u : Unlocked) → w ≡ written.Wrote m
+  pub steps_opened : (m : ℕ) (out p : List ℕ) (u : Unlocked) → w ≡ Ok m
       → out ≡ over (ran_from t f n).bytes d → p ≡ take m (drop 0 out) → u ≡ document_of (inner p) (length p)
       → u ≡ (opening t f n).answer
   unfolding opening answer_of
@@ -89,7 +87,7 @@ module _ (t f d : List ℕ) (n : ℕ) (w : Written) (e : w ≡ written_of (ran_f
       rw x.0 (j ∙ ap (λ (z : List ℕ). document_of (inner z) (length z)) y)
 
 module _ (o : Outcome) (t f d : List ℕ) (n : ℕ) where
-  pub under_refused : (r : Refusal) → o ≡ outcome.Refused r
+  pub under_refused : (r : Refusal) → o ≡ Err r
       → record {
         value : Refused r ≡ (opening_under o t f n).answer;
         out_after : d ≡ over (opening_under o t f n).bytes d;
@@ -97,7 +95,7 @@ module _ (o : Outcome) (t f d : List ℕ) (n : ℕ) where
   unfolding opening_under
   under_refused r e = rw e (record { value = refl; out_after = sym (over_nil d) })
 
-  pub under_accepted : o ≡ outcome.Accepted → opening t f n ≡ opening_under o t f n
+  pub under_accepted : o ≡ (Ok tt) → opening t f n ≡ opening_under o t f n
   unfolding opening_under
   under_accepted e = rw e
 
@@ -146,18 +144,17 @@ module _ (x : Result Header Refusal) (key f d m : List ℕ) (n : ℕ) where
   unfolding opening_by
   by_read h e = rw e
 
--- the composite key's answer: its outcome, and a key that is the definition's
+-- the composite key's answer
 module _ (p k : keys.Credential) (f d m : List ℕ) (n : ℕ) where
-  pub as_refused : (r : Refusal) → (keys.composite p k keys.absent).outcome ≡ outcome.Refused r
+  pub as_refused : (r : Refusal) → keys.composite p k keys.absent ≡ Err r
       → Shows (Refused r) d d m (opening_as p k f n m)
   unfolding opening_as opening_if
   as_refused r e = rw e (record { value = refl; out_after = sym (over_nil d); memory_after = refl })
 
-  pub as_accepted : (key : List ℕ) → key ≡ (keys.composite p k keys.absent).key
-      → (keys.composite p k keys.absent).outcome ≡ outcome.Accepted
+  pub as_accepted : (key : List ℕ) → keys.composite p k keys.absent ≡ Ok key
       → opening_by (header f) key f n m ≡ opening_as p k f n m
   unfolding opening_as opening_if
-  as_accepted key e g = rw g (ap (λ (x : List ℕ). opening_by (header f) x f n m) e)
+  as_accepted key e = rw e
 
 -- what the test of a length says of an input
 pub within : {w : Bool} (o : Bool) → w ≡ not o → not w ≡ false → o ≡ false

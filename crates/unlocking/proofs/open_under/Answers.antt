@@ -15,34 +15,34 @@ written_is : (t f d x : List ℕ) (o : Opened) → x ≡ over (ran_from t f (len
 unfolding opening
 written_is t f d x o e g = e ∙ ap (λ (z : Opened). over z.bytes d) g
 
-pub returns-in-Refused : goal.returns-in-Refused
-returns-in-Refused c =
+pub returns-in-Err : goal.returns-in-Err
+returns-in-Err c =
     let a = c.args in
     let d = a.out.now in
-    under_refused a.outcome a.t a.f.now d (length d) _ c.in-Refused.is
+    under_refused a.outcome a.t a.f.now d (length d) _ c.in-Err.is
 
-pub returns-in-Refused-open_steps : goal.returns-in-Refused-open_steps
-returns-in-Refused-open_steps c =
+pub returns-in-Err-open_steps : goal.returns-in-Err-open_steps
+returns-in-Err-open_steps c =
     let a = c.args in
     let f = a.f.now in
     let d = a.out.now in
     let o = c.open_steps in
-    let g = under_accepted a.outcome a.t f d (length d) c.in-Accepted.is in
+    let g = under_accepted a.outcome a.t f d (length d) c.in-Ok.is in
     record {
-      value = steps_refused a.t f d (length d) o.result o.ensures.value _ c.in-Refused-open_steps.is
+      value = steps_refused a.t f d (length d) o.result o.ensures.value _ c.in-Err-open_steps.is
           ∙ ap (λ (z : Opened). z.answer) g;
       out_after = written_is a.t f d _ _ o.ensures.out_after g;
     }
 
-pub returns-in-Wrote : goal.returns-in-Wrote
-returns-in-Wrote c =
+pub returns-in-Ok-open_steps : goal.returns-in-Ok-open_steps
+returns-in-Ok-open_steps c =
     let a = c.args in
     let f = a.f.now in
     let d = a.out.now in
     let o = c.open_steps in
-    let g = under_accepted a.outcome a.t f d (length d) c.in-Accepted.is in
+    let g = under_accepted a.outcome a.t f d (length d) c.in-Ok.is in
     record {
-      value = steps_opened a.t f d (length d) o.result o.ensures.value _ _ _ _ c.in-Wrote.is
+      value = steps_opened a.t f d (length d) o.result o.ensures.value _ _ _ _ c.in-Ok-open_steps.is
           o.ensures.out_after c.part.ensures c.find_document.ensures
           ∙ ap (λ (z : Opened). z.answer) g;
       out_after = written_is a.t f d _ _ o.ensures.out_after g;

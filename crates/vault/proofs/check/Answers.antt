@@ -7,9 +7,8 @@ use Rattle.vault.specs.Checked.{checked_of}
 use Rattle.vault.proofs.check.Goals as goal
 
 pub returns-in-Err : goal.returns-in-Err
-unfolding start start_in
-returns-in-Err c =
-    rw (sym c.read.ensures.value ∙ c.in-Err.is) c.refuse.ensures
+unfolding start start_in checked_of
+returns-in-Err c = rw (sym c.read.ensures.value ∙ c.in-Err.is)
 
 pub keys_of-k-requires : goal.keys_of-k-requires
 keys_of-k-requires c =

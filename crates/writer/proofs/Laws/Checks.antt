@@ -16,8 +16,7 @@ use lib.ListN.{length}
 use borrow.Author.Tests.{lt-ltb, le-ltb}
 use Rattle.refusals.specs.declared.Refusal.{Refusal}
 use Rattle.refusals.specs.declared.Refusal.TheVariants.{TooLong, NoRoom}
-use Rattle.refusals.specs.declared.Written.{Written}
-use Rattle.refusals.specs.declared.Written.TheVariants as written
+use Rattle.refusals.specs.Numbers.{Written}
 use Rattle.refusals.specs.Limits.{file_limit, payload_limit, written_block}
 use Rattle.refusals.proofs.Laws.Limits.{argon2_fits_bounds}
 use Rattle.ciphers.specs.declared.Cipher.{Cipher}
@@ -49,7 +48,7 @@ checked-sized minor id seed nonce fig salt custom c e =
     }
 
 pub writing-refused : (g : Figures) (t b : List ℕ) (n : ℕ) (r : Refusal) → checked_of g ≡ Err r
-    → written.Refused r ≡ writing g t b n
+    → Err r ≡ writing g t b n
 unfolding writing_with writing_by
 writing-refused g t b n r e = rw e
 
@@ -65,8 +64,8 @@ writing_as g c t b n e = rw e
 shown_by_as : (g : Figures) (c : Cipher) (t b : List ℕ) (w : Written)
     → bytes_of w (file_bytes g c t b) ≡ shown_by written_block (Ok c) w g t b
 unfolding shown_by bytes_of
-shown_by_as g c t b (written.Wrote n) = refl
-shown_by_as g c t b (written.Refused r) = refl
+shown_by_as g c t b (Ok n) = refl
+shown_by_as g c t b (Err r) = refl
 
 pub shown_as : (g : Figures) (c : Cipher) (t b : List ℕ) (n : ℕ) (w : Written) → checked_of g ≡ Ok c → w ≡ writing g t b n
     → bytes_of w (file_bytes g c t b) ≡ shown g t b n
@@ -75,21 +74,21 @@ shown_as g c t b n w e f =
     shown_by_as g c t b w ∙ ap (λ (v : Written). shown_by written_block (Ok c) v g t b) f
     ∙ ap (λ (x : Result Cipher Refusal). shown_by written_block x (writing g t b n) g t b) (sym e)
 
-pub settled-payload : (b f n : ℕ) → leb b payload_limit ≡ false → written.Refused TooLong ≡ settled sizes b f n
+pub settled-payload : (b f n : ℕ) → leb b payload_limit ≡ false → Err TooLong ≡ settled sizes b f n
 unfolding settled
 settled-payload b f n e = rw e
 
 pub settled-file : (b f n : ℕ) → leb b payload_limit ≡ true → leb f file_limit ≡ false
-    → written.Refused TooLong ≡ settled sizes b f n
+    → Err TooLong ≡ settled sizes b f n
 unfolding settled
 settled-file b f n e h = rw (e, h)
 
 pub settled_room : (b f n : ℕ) → leb b payload_limit ≡ true → leb f file_limit ≡ true → n < f
-    → written.Refused NoRoom ≡ settled sizes b f n
+    → Err NoRoom ≡ settled sizes b f n
 unfolding settled
 settled_room b f n e h l = rw (e, h, lt-ltb n f l)
 
 pub settled-wrote : (b f n : ℕ) → leb b payload_limit ≡ true → leb f file_limit ≡ true → f ≤ n
-    → written.Wrote f ≡ settled sizes b f n
+    → Ok f ≡ settled sizes b f n
 unfolding settled
 settled-wrote b f n e h l = rw (e, h, le-ltb n f l)

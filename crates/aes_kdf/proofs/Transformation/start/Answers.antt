@@ -1,7 +1,7 @@
 -- `aes_kdf::Transformation::start` meets its contract. Assumes nothing.
+use Rattle.std.specs.Prelude.{Ok}
 use mathlib.Core.List.{List}
 use Prim.Native.Nat.{ℕ}
-use Rattle.refusals.specs.declared.Outcome.TheVariants as outcomes
 use Rattle.aes_kdf.specs.declared.Mark.TheVariants as marks
 use Rattle.aes_kdf.specs.declared.Started.{Started}
 use Rattle.aes_kdf.proofs.Laws.{left_is, right_is}
@@ -20,7 +20,7 @@ use Rattle.aes_kdf.proofs.Transformation.start.Goals as goal
 abbrev started_with : List ℕ → List ℕ → List ℕ → ℕ → Started
 started_with w l r n =
     record {
-      outcome = outcomes.Accepted;
+      outcome = Ok tt;
       next = record { mark = marks.Accepted; keys = record { words = w }; left = l; right = r; done = 0; rounds = n };
     }
 

@@ -1,13 +1,8 @@
 -- `dictionary::table::insert` meets its contract. Assumes nothing.
 -- The invariant: what is before i is as it was, and the rest moved one up.
-use mathlib.Core.Path.{◌≡◌}
 use Prim.Native.Nat.{◌≤◌}
-use lib.ListN.{length}
 use Rattle.dictionary.proofs.Laws.Insert.{Shifted}
 use Rattle.dictionary.proofs.table.insert.Given as goal
 
 abbrev pub invariant-loop-i : goal.invariant-loop-i
-invariant-loop-i l = Shifted l.initial.t l.t l.n l.i × (length l.t ≡ length l.initial.t) × (l.j ≤ l.i) × (l.i ≤ l.n)
-
-abbrev pub decreases-loop-i : goal.decreases-loop-i
-decreases-loop-i l = l.i
+invariant-loop-i l = Shifted l.initial.t l.t l.n l.i × (l.j ≤ l.i)

@@ -1,15 +1,21 @@
 -- `exports::derivation::kdbx4_composite` meets its contract. Assumes nothing.
-use mathlib.Core.Path.{ap}
-use Rattle.keys.specs.declared.Composed.{Composed}
-use Rattle.exports.proofs.Laws.{answer-accepted, answer-refused}
+use mathlib.Core.Path.{refl, sym, ◌∙◌}
 use Rattle.exports.proofs.derivation.kdbx4_composite.Goals as goal
 
-pub returns-in-Accepted : goal.returns-in-Accepted
-returns-in-Accepted c =
-    let e = c.composite-c.ensures in
-    answer-accepted _ (ap (λ (h : Composed). h.outcome) e) (ap (λ (h : Composed). h.key) e) c.in-Accepted.is
+pub returns-in-Ok : goal.returns-in-Ok
+returns-in-Ok c =
+    rw (
+      sym c.given.ensures,
+      sym c.given-2.ensures,
+      sym c.given-3.ensures,
+      sym (sym c.in-Ok.is ∙ c.composite.ensures),
+    ) (record { value = refl; out_after = refl })
 
-pub returns : goal.returns
-returns c =
-    let e = c.composite-c.ensures in
-    answer-refused _ (ap (λ (h : Composed). h.outcome) e) c.number.ensures c.in_default.is
+pub returns-in-Err : goal.returns-in-Err
+returns-in-Err c =
+    rw (
+      sym c.given.ensures,
+      sym c.given-2.ensures,
+      sym c.given-3.ensures,
+      sym (sym c.in-Err.is ∙ c.composite.ensures),
+    ) (record { value = c.number.ensures; out_after = refl })

@@ -1,7 +1,7 @@
 -- `exports::derivation::run_argon2` meets its contract. Assumes nothing.
+use Rattle.std.specs.Prelude.{Ok}
 use mathlib.Core.Path.{◌≡◌, sym, ap, ◌∙◌}
-use Rattle.refusals.specs.declared.Outcome.{Outcome}
-use Rattle.refusals.specs.declared.Outcome.TheVariants.{Accepted}
+use Rattle.refusals.specs.Numbers.{Outcome}
 use Rattle.argon2.specs.Rfc9106.{Inputs, tag}
 use Rattle.argon2.specs.Run.{transformed, transformed_key}
 use Rattle.argon2.specs.declared.Transformed.{Transformed}
@@ -11,15 +11,15 @@ use Rattle.exports.proofs.derivation.run_argon2.Goals as goal
 outcome_of_run : {t : Transformed} {o : Outcome} (i : Inputs) → t ≡ transformed o i → t.outcome ≡ o
 outcome_of_run {t} {o} i e = ap (λ (x : Transformed). x.outcome) e ∙ outcome-transformed o i
 
-key_of_run : {t : Transformed} (o : Outcome) (i : Inputs) → t ≡ transformed o i → o ≡ Accepted → t.key ≡ tag i
+key_of_run : {t : Transformed} (o : Outcome) (i : Inputs) → t ≡ transformed o i → o ≡ (Ok tt) → t.key ≡ tag i
 key_of_run {t} o i e a = ap (λ (x : Transformed). x.key) e ∙ key-transformed o i a
 
-pub returns-in-Accepted : goal.returns-in-Accepted
+pub returns-in-Ok : goal.returns-in-Ok
 unfolding transformed_key
-returns-in-Accepted c =
+returns-in-Ok c =
     let e = c.transform-transformed.ensures in
     let o = outcome_of_run _ e.value in
-    let a = c.in-Accepted.is in
+    let a = c.in-Ok.is in
     let x = answer-accepted c.args.out.now o (key_of_run _ _ e.value (sym o ∙ a)) a in
     record {
       value = x.value;

@@ -4,10 +4,10 @@ use Rattle.hmac.specs.declared.Tagged.{Tagged}
 use Rattle.exports.proofs.Laws.{answer-accepted, answer-refused}
 use Rattle.exports.proofs.hashes.kdbx4_hmac_sha256.Goals as goal
 
-pub returns-in-Accepted : goal.returns-in-Accepted
-returns-in-Accepted c =
+pub returns-in-Ok : goal.returns-in-Ok
+returns-in-Ok c =
     let e = c.tag-t.ensures in
-    answer-accepted _ (ap (λ (h : Tagged). h.outcome) e) (ap (λ (h : Tagged). h.tag) e) c.in-Accepted.is
+    answer-accepted _ (ap (λ (h : Tagged). h.outcome) e) (ap (λ (h : Tagged). h.tag) e) c.in-Ok.is
 
 pub returns : goal.returns
 returns c =

@@ -7,12 +7,12 @@ use Rattle.states.specs.Sha256State.{packed, unpacked}
 use Rattle.exports.proofs.Laws.{answer-accepted, answer-refused}
 use Rattle.exports.proofs.hashes.kdbx4_sha256_feed.Goals as goal
 
-pub returns-in-Accepted : goal.returns-in-Accepted
-returns-in-Accepted c =
+pub returns-in-Ok : goal.returns-in-Ok
+returns-in-Ok c =
     let part = c.args.part.now in
     let e = c.feed-fed.ensures ∙ ap (λ (s : Sha256). fed s part) c.unpack.ensures in
     let x = answer-accepted c.args.state.now (ap (λ (x : Fed). x.outcome) e)
-    (c.pack.ensures ∙ ap (λ (x : Fed). packed x.next) e) c.in-Accepted.is in
+    (c.pack.ensures ∙ ap (λ (x : Fed). packed x.next) e) c.in-Ok.is in
     record { value = x.value; state_after = x.out_after }
 
 pub returns : goal.returns

@@ -4,10 +4,10 @@ use Rattle.sha512.specs.declared.Hashed.{Hashed}
 use Rattle.exports.proofs.Laws.{answer-accepted, answer-refused}
 use Rattle.exports.proofs.hashes.kdbx4_sha512.Goals as goal
 
-pub returns-in-Accepted : goal.returns-in-Accepted
-returns-in-Accepted c =
+pub returns-in-Ok : goal.returns-in-Ok
+returns-in-Ok c =
     let e = c.hash-h.ensures in
-    answer-accepted _ (ap (λ (h : Hashed). h.outcome) e) (ap (λ (h : Hashed). h.digest) e) c.in-Accepted.is
+    answer-accepted _ (ap (λ (h : Hashed). h.outcome) e) (ap (λ (h : Hashed). h.digest) e) c.in-Ok.is
 
 pub returns : goal.returns
 returns c =

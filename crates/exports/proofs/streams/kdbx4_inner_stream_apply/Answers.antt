@@ -9,8 +9,8 @@ use Rattle.states.specs.InnerStreamState.{packed}
 use Rattle.exports.proofs.Laws.{answer-wrote, answer_not_written, kept_wrote, kept_refused}
 use Rattle.exports.proofs.streams.kdbx4_inner_stream_apply.Goals as goal
 
-pub returns-in-Wrote : goal.returns-in-Wrote
-returns-in-Wrote c =
+pub returns-in-Ok : goal.returns-in-Ok
+returns-in-Ok c =
     let a = c.args in
     let b = a.bytes.now in
     let d = a.out.now in
@@ -20,7 +20,7 @@ returns-in-Wrote c =
     let o = e.out_after ∙ ap (λ (s : InnerStream). over (handed s b (length d)) d) u in
     let w = ap (λ (y : Applied). y.written) x in
     let n = ap (λ (y : Applied). packed y.next) x in
-    let g = c.in-Wrote.is in
+    let g = c.in-Ok.is in
     let r = answer-wrote a.count.now w g in
     record {
       value = r.value;
@@ -29,8 +29,8 @@ returns-in-Wrote c =
       count_after = r.count_after;
     }
 
-pub returns-in-Refused : goal.returns-in-Refused
-returns-in-Refused c =
+pub returns-in-Err : goal.returns-in-Err
+returns-in-Err c =
     let a = c.args in
     let b = a.bytes.now in
     let d = a.out.now in
@@ -39,7 +39,7 @@ returns-in-Refused c =
     let x = e.value ∙ ap (λ (s : InnerStream). applied s b (length d)) u in
     let o = e.out_after ∙ ap (λ (s : InnerStream). over (handed s b (length d)) d) u in
     let w = ap (λ (y : Applied). y.written) x in
-    let g = c.in-Refused.is in
+    let g = c.in-Err.is in
     let r = answer_not_written a.count.now w c.number.ensures g in
     record {
       value = r.value;

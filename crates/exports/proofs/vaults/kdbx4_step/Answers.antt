@@ -8,8 +8,8 @@ use Rattle.states.specs.OpenerState.{packed}
 use Rattle.exports.proofs.Laws.{answer-wrote, answer_not_written, kept_or-wrote, kept_or_next}
 use Rattle.exports.proofs.vaults.kdbx4_step.Goals as goal
 
-pub returns-in-Wrote : goal.returns-in-Wrote
-returns-in-Wrote c =
+pub returns-in-Ok : goal.returns-in-Ok
+returns-in-Ok c =
     let a = c.args in
     let f = a.file.now in
     let d = a.out.now in
@@ -18,7 +18,7 @@ returns-in-Wrote c =
     let w = e.answer_value ∙ ap (λ (o : Opener). (step_of f o (length d)).answer.written) u in
     let b = e.out_after ∙ ap (λ (o : Opener). over (step_of f o (length d)).answer.bytes d) u in
     let s = e.next_value ∙ ap (λ (o : Opener). (step_of f o (length d)).next) u in
-    let x = answer-wrote a.count.now w c.in-Wrote.is in
+    let x = answer-wrote a.count.now w c.in-Ok.is in
     record {
       value = x.value;
       state_after = kept_or-wrote _ x.value (c.pack.ensures ∙ ap packed s);
@@ -26,8 +26,8 @@ returns-in-Wrote c =
       count_after = x.count_after;
     }
 
-pub returns-in-Refused : goal.returns-in-Refused
-returns-in-Refused c =
+pub returns-in-Err : goal.returns-in-Err
+returns-in-Err c =
     let a = c.args in
     let f = a.file.now in
     let d = a.out.now in
@@ -36,10 +36,10 @@ returns-in-Refused c =
     let w = e.answer_value ∙ ap (λ (o : Opener). (step_of f o (length d)).answer.written) u in
     let b = e.out_after ∙ ap (λ (o : Opener). over (step_of f o (length d)).answer.bytes d) u in
     let s = e.next_value ∙ ap (λ (o : Opener). (step_of f o (length d)).next) u in
-    let x = answer_not_written a.count.now w c.number-number.ensures c.in-Refused.is in
+    let x = answer_not_written a.count.now w c.number-number.ensures c.in-Err.is in
     record {
       value = x.value;
-      state_after = kept_or_next _ x.value c.if-number-eq17.false c.if-number-eq19.false (c.pack-in-Refused.ensures ∙ ap packed s);
+      state_after = kept_or_next _ x.value c.if-number-eq17.false c.if-number-eq19.false (c.pack-in-Err.ensures ∙ ap packed s);
       out_after = b;
       count_after = x.count_after;
     }

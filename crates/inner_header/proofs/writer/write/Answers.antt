@@ -7,11 +7,11 @@ use Rattle.inner_header.proofs.Laws.Planned.{planned-wrote}
 use borrow.Author.Rules.{rules}
 use Rattle.inner_header.proofs.writer.write.Goals as goal
 
-pub returns-in-Refused : goal.returns-in-Refused
+pub returns-in-Err : goal.returns-in-Err
 unfolding writing due written_bytes
-returns-in-Refused c =
+returns-in-Err c =
     let a = c.args in
-    let g = sym c.plan.ensures ∙ c.in-Refused.is in
+    let g = sym c.plan.ensures ∙ c.in-Err.is in
     record {
       value = sym g;
       out_after = rw g (sym (over_nil a.out.now));
@@ -23,14 +23,14 @@ lay-requires c =
     let w =
     planned-wrote a.algorithm (length a.key.now) a.run.now (length a.document.now)
     (length a.out.now)
-    c.in-Wrote.n
-    (sym c.plan.ensures ∙ c.in-Wrote.is) in
+    c.in-Ok.n
+    (sym c.plan.ensures ∙ c.in-Ok.is) in
     search rules
 
-pub returns-in-Wrote : goal.returns-in-Wrote
+pub returns-in-Ok : goal.returns-in-Ok
 unfolding writing due written_bytes
-returns-in-Wrote c =
-    let g = sym c.plan.ensures ∙ c.in-Wrote.is in
+returns-in-Ok c =
+    let g = sym c.plan.ensures ∙ c.in-Ok.is in
     record {
       value = sym g;
       out_after = rw g c.lay.ensures;

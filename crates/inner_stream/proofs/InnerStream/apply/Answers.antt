@@ -16,29 +16,29 @@ write-requires c =
 pub behind-requires : goal.behind-requires
 behind-requires c =
     let a = c.args in
-    let p = planned-wrote a.self.position (length a.bytes.now) (length a.out.now) c.in-Wrote.n
-    (sym c.write.ensures.value ∙ c.in-Wrote.is) in
+    let p = planned-wrote a.self.position (length a.bytes.now) (length a.out.now) c.in-Ok.n
+    (sym c.write.ensures.value ∙ c.in-Ok.is) in
     let s = stream_word in
     omega arith
 
-pub returns-in-Wrote : goal.returns-in-Wrote
+pub returns-in-Ok : goal.returns-in-Ok
 unfolding answer applied handed due
-returns-in-Wrote c =
+returns-in-Ok c =
     let t = sym c.is_open.ensures ∙ c.if-is_open.true in
-    let g = sym c.write.ensures.value ∙ c.in-Wrote.is in
+    let g = sym c.write.ensures.value ∙ c.in-Ok.is in
     record {
       value = c.behind.ensures ∙ rw (t, g);
-      out_after = rw (t, g) (rw c.in-Wrote.is at c.write.ensures.out_after);
+      out_after = rw (t, g) (rw c.in-Ok.is at c.write.ensures.out_after);
     }
 
-pub returns-in-Refused : goal.returns-in-Refused
+pub returns-in-Err : goal.returns-in-Err
 unfolding answer applied handed due
-returns-in-Refused c =
+returns-in-Err c =
     let t = sym c.is_open.ensures ∙ c.if-is_open.true in
-    let g = sym c.write.ensures.value ∙ c.in-Refused.is in
+    let g = sym c.write.ensures.value ∙ c.in-Err.is in
     record {
       value = c.keep.ensures ∙ rw (t, g);
-      out_after = rw (t, g) (rw c.in-Refused.is at c.write.ensures.out_after);
+      out_after = rw (t, g) (rw c.in-Err.is at c.write.ensures.out_after);
     }
 
 pub returns : goal.returns

@@ -10,11 +10,11 @@ use Rattle.inner_stream.proofs.Laws.{planned-wrote, length-covered, covered_fron
 use borrow.Author.Rules.{rules}
 use Rattle.inner_stream.proofs.InnerStream.write.Goals as goal
 
-pub returns-in-Refused : goal.returns-in-Refused
+pub returns-in-Err : goal.returns-in-Err
 unfolding due
-returns-in-Refused c =
+returns-in-Err c =
     let a = c.args in
-    let g = sym c.in-Refused.is ∙ c.plan.ensures in
+    let g = sym c.in-Err.is ∙ c.plan.ensures in
     record {
       value = g;
       out_after = sym (over_nil a.out.now);
@@ -24,36 +24,36 @@ pub slice_bounds-fill-end : goal.slice_bounds-fill-end
 slice_bounds-fill-end c =
     let a = c.args in
     let w =
-    planned-wrote a.self.position (length a.bytes.now) (length a.out.now) c.in-Wrote.n
-    (sym c.plan.ensures ∙ c.in-Wrote.is) in
+    planned-wrote a.self.position (length a.bytes.now) (length a.out.now) c.in-Ok.n
+    (sym c.plan.ensures ∙ c.in-Ok.is) in
     search rules
 
-pub slice_bounds-fill-end-in-Wrote : goal.slice_bounds-fill-end-in-Wrote
-slice_bounds-fill-end-in-Wrote c =
+pub slice_bounds-fill-end-in-Ok : goal.slice_bounds-fill-end-in-Ok
+slice_bounds-fill-end-in-Ok c =
     let a = c.args in
     let w =
-    planned-wrote a.self.position (length a.bytes.now) (length a.out.now) c.in-Wrote.n
-    (sym c.plan.ensures ∙ c.in-Wrote.is) in
-    sym (length-take-le c.in-Wrote.n a.out.now (omega arith))
+    planned-wrote a.self.position (length a.bytes.now) (length a.out.now) c.in-Ok.n
+    (sym c.plan.ensures ∙ c.in-Ok.is) in
+    sym (length-take-le c.in-Ok.n a.out.now (omega arith))
 
 pub fill-requires : goal.fill-requires
 fill-requires c =
     let a = c.args in
     let w =
-    planned-wrote a.self.position (length a.bytes.now) (length a.out.now) c.in-Wrote.n
-    (sym c.plan.ensures ∙ c.in-Wrote.is) in
-    let l = length-take-le c.in-Wrote.n a.out.now (omega arith) in
+    planned-wrote a.self.position (length a.bytes.now) (length a.out.now) c.in-Ok.n
+    (sym c.plan.ensures ∙ c.in-Ok.is) in
+    let l = length-take-le c.in-Ok.n a.out.now (omega arith) in
     search rules
 
-pub returns-in-Wrote : goal.returns-in-Wrote
+pub returns-in-Ok : goal.returns-in-Ok
 unfolding due
-returns-in-Wrote c =
+returns-in-Ok c =
     let a = c.args in
-    let g = sym c.plan.ensures ∙ c.in-Wrote.is in
-    let w = planned-wrote a.self.position (length a.bytes.now) (length a.out.now) c.in-Wrote.n g in
+    let g = sym c.plan.ensures ∙ c.in-Ok.is in
+    let w = planned-wrote a.self.position (length a.bytes.now) (length a.out.now) c.in-Ok.n g in
     let v = covered a.self a.bytes.now in
-    let l : length v ≡ c.in-Wrote.n = length-covered a.self a.bytes.now ∙ sym w.long in
+    let l : length v ≡ c.in-Ok.n = length-covered a.self a.bytes.now ∙ sym w.long in
     record {
       value = sym g;
-      out_after = covered_front v a.out.now _ c.in-Wrote.n c.fill.ensures l;
+      out_after = covered_front v a.out.now _ c.in-Ok.n c.fill.ensures l;
     }

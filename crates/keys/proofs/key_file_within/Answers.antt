@@ -1,7 +1,0 @@
--- `keys::key_file_within` meets its contract. Assumes nothing.
-use mathlib.Core.Path.{◌∙◌}
-use Rattle.keys.proofs.Laws.{not-not}
-use Rattle.keys.proofs.key_file_within.Goals as goal
-
-pub returns-then-given : goal.returns-then-given
-returns-then-given c = rw c.if-given.true (c.key_file_fits.ensures ∙ not-not _)

@@ -1,7 +1,0 @@
--- `keys::password_within` meets its contract. Assumes nothing.
-use mathlib.Core.Path.{◌∙◌}
-use Rattle.keys.proofs.Laws.{not-not}
-use Rattle.keys.proofs.password_within.Goals as goal
-
-pub returns-then-given : goal.returns-then-given
-returns-then-given c = rw c.if-given.true (c.password_fits.ensures ∙ not-not _)
