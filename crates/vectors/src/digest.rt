@@ -1,6 +1,4 @@
 // A hash or a tag of a message that is fed in parts: the rows that the programs of these share.
-ghost use Rattle.std.specs.Prelude.{◌<◌};
-
 use crate::first;
 use crate::parts::Parts;
 use std::io;
@@ -22,9 +20,7 @@ pub fn in_parts<D: Digest>(
     m: &[u8],
     first: usize,
     longest: u8,
-) -> io::Result<()>
-    requires { 0 < first }
-{
+) -> io::Result<()> {
     for part in Parts::of(m, first, longest) {
         state.feed(b"");
         state.feed(part);

@@ -1,5 +1,5 @@
-// A message in parts whose lengths change: the first of a given length, the next twice as long and one more, or of one
-// byte again where that would pass a bound; the last is what is left.
+// A message in parts whose lengths change: the first of a given length, of one byte at least, the next twice as long and
+// one more, or of one byte again where that would pass a bound; the last is what is left.
 ghost use Rattle.std.specs.Prelude.{◌<◌, length};
 ghost use Rattle.std.specs.Iterator.{at_most};
 
@@ -25,12 +25,10 @@ pub struct Parts<'a> {
 }
 
 impl<'a> Parts<'a> {
-    pub fn of(message: &'a [u8], first: usize, longest: u8) -> Parts<'a>
-        requires { 0 < first }
-    {
+    pub fn of(message: &'a [u8], first: usize, longest: u8) -> Parts<'a> {
         Parts {
             rest: message,
-            size: first,
+            size: first.max(1),
             longest,
         }
     }
@@ -62,12 +60,10 @@ pub struct PartsMut<'a> {
 }
 
 impl<'a> PartsMut<'a> {
-    pub fn of(message: &'a mut [u8], first: usize, longest: u8) -> PartsMut<'a>
-        requires { 0 < first }
-    {
+    pub fn of(message: &'a mut [u8], first: usize, longest: u8) -> PartsMut<'a> {
         PartsMut {
             rest: message,
-            size: first,
+            size: first.max(1),
             longest,
         }
     }
