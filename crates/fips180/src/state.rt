@@ -1,13 +1,12 @@
 // A hash under way, over the word: feeding it, and its last blocks.
 //
-// The const parameters are sizes that follow from the word, as the contracts require: B a block's bytes, N the rounds,
-// D two blocks, R the digest. An array's length may be a const parameter, and not a constant of the trait.
+// The const parameters are the sizes of the algorithm (`Algorithm`): B a block's bytes, D two blocks, R the digest.
 ghost use Rattle.std.specs.Prelude.{◌≡◌, ◌+◌, ◌*◌, ◌<◌, ◌^◌, length, map};
 ghost use Rattle.fips180.specs.Fips180 as fips180;
 ghost use Rattle.fips180.specs.Hashing as hashing;
 ghost use Rattle.fips180.specs.State.{held, held_fed};
 
-use crate::block::blocks;
+use crate::algorithm::Algorithm;
 use crate::rounds::Working;
 use crate::word::Word;
 use refusals::Refusal;
@@ -27,12 +26,12 @@ pub struct Fed<W, const B: usize> {
     pub next: State<W, B>,
 }
 
-impl<W: Word, const B: usize> State<W, B> {
+impl<W, const B: usize> State<W, B> {
     // The state with the bytes of `s` behind those that came before: whole blocks are compressed straight from `s`.
-    fn absorb<const N: usize>(self, s: &[u8], k: &[W; N]) -> Self
-        requires block { B ≡ fips180.block_bytes W.sha2 }
-        requires k_value { map W.number k.now ≡ W.sha2.constants }
-        requires room { self.total + length s.now < 2 ^ 32 }
+    fn absorb<const D: usize, const R: usize>(self, s: &[u8]) -> Self
+    where
+        W: Algorithm<B, D, R>,
+        requires { self.total + length s.now < 2 ^ 32 }
         ensures { held W.number result ≡ hashing.absorbed W.sha2 (held W.number self) s.now }
     {
         let total = self.total as usize;
@@ -51,10 +50,8 @@ impl<W: Word, const B: usize> State<W, B> {
                 total: next,
             };
         }
-        // A copy of the constants: where their place is known, each reading of one computes it anew.
-        let k = *k;
-        let c = blocks(chain, &buffer, &k);
-        let d = blocks(c, &s[need..], &k);
+        let c = W::hash_blocks(chain, &buffer);
+        let d = W::hash_blocks(c, &s[need..]);
         let at = need + (n - need) / B * B;
         let mut rest = [0u8; B];
         slices::copy(&mut rest, &s[at..]);
@@ -66,9 +63,9 @@ impl<W: Word, const B: usize> State<W, B> {
     }
 
     // A feed under a limit on the bytes in all.
-    pub fn feed_to<const N: usize>(self, s: &[u8], limit: u32, k: &[W; N]) -> Fed<W, B>
-        requires block { B ≡ fips180.block_bytes W.sha2 }
-        requires k_value { map W.number k.now ≡ W.sha2.constants }
+    pub fn feed_to<const D: usize, const R: usize>(self, s: &[u8], limit: u32) -> Fed<W, B>
+    where
+        W: Algorithm<B, D, R>,
         ensures { held_fed W.number result ≡ hashing.feed_to W.sha2 limit (held W.number self) s.now }
     {
         let total = self.total as usize;
@@ -85,7 +82,7 @@ impl<W: Word, const B: usize> State<W, B> {
                 next: self,
             };
         }
-        let next = self.absorb(s, k);
+        let next = self.absorb::<D, R>(s);
         Fed {
             outcome: Ok(()),
             next,
@@ -94,11 +91,9 @@ impl<W: Word, const B: usize> State<W, B> {
 
     // The digest of all that came: the padding (5.1.1 and 5.1.2), the last blocks, of which there are one or two, and
     // the words as bytes.
-    pub fn finish<const N: usize, const D: usize, const R: usize>(self, k: &[W; N]) -> [u8; R]
-        requires block { B ≡ fips180.block_bytes W.sha2 }
-        requires two { D ≡ 2 * B }
-        requires words { R ≡ 8 * W.sha2.bytes }
-        requires k_value { map W.number k.now ≡ W.sha2.constants }
+    pub fn finish<const D: usize, const R: usize>(self) -> [u8; R]
+    where
+        W: Algorithm<B, D, R>,
         ensures { result ≡ hashing.finish W.sha2 (held W.number self) }
     {
         let total = self.total as usize;
@@ -112,7 +107,7 @@ impl<W: Word, const B: usize> State<W, B> {
         let end = (used + B / 8) / B * B + B;
         let at = end - 8;
         slices::copy(&mut room[at..], &bits);
-        digest(blocks(self.chain, &room[..end], k).words())
+        digest(W::hash_blocks(self.chain, &room[..end]).words())
     }
 }
 

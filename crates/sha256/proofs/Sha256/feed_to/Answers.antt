@@ -1,7 +1,6 @@
 -- `sha256::Sha256::feed_to` meets its contract. Assumes nothing.
-use Rattle.std.proofs.Common.{ap, ◌∙◌, rules}
+use Rattle.std.proofs.Common.{ap, ◌∙◌}
 use Rattle.fips180.specs.Fips180.{sha256}
-use Rattle.fips180.specs.Fips180.Constants.{k256}
 use Rattle.fips180.specs.Hashing as hashing
 use Rattle.fips180.specs.Hashing.{Hashing}
 use Rattle.sha256.specs.State.{stored}
@@ -10,10 +9,6 @@ use Rattle.sha256.proofs.Sha256.feed_to.Goals as goal
 
 abbrev kept : hashing.Fed → Fed
 kept f = record { outcome = f.outcome; next = stored f.next }
-
-pub feed_to-fed-requires : goal.feed_to-fed-requires
-unfolding k256
-feed_to-fed-requires c = search rules
 
 pub returns : goal.returns
 returns c =

@@ -1,7 +1,6 @@
 -- `sha512::Sha512::feed_to` meets its contract. Assumes nothing.
-use Rattle.std.proofs.Common.{ap, ◌∙◌, rules}
+use Rattle.std.proofs.Common.{ap, ◌∙◌}
 use Rattle.fips180.specs.Fips180.{sha512}
-use Rattle.fips180.specs.Fips180.Constants.{k512}
 use Rattle.fips180.specs.Hashing as hashing
 use Rattle.fips180.specs.Hashing.{Hashing}
 use Rattle.sha512.specs.State.{stored}
@@ -10,10 +9,6 @@ use Rattle.sha512.proofs.Sha512.feed_to.Goals as goal
 
 abbrev kept : hashing.Fed → Fed
 kept f = record { outcome = f.outcome; next = stored f.next }
-
-pub feed_to-fed-requires : goal.feed_to-fed-requires
-unfolding k512
-feed_to-fed-requires c = search rules
 
 pub returns : goal.returns
 returns c =

@@ -11,7 +11,8 @@ returns-then-n-need g c =
     let h = held g.W.Word.number c.args.self in
     let pos : 0 < block_bytes p = omega (arith, g.met.W.Word.laws.least) in
     let long : length c.args.self.buffer ≡ g.row.B = search rules in
-    absorbed_few p pos h c.args.s.now g.row.B c.requires.block long (g.row.B - c.args.self.total % g.row.B) refl
+    let is = g.met.W.Algorithm.sizes in
+    absorbed_few p pos h c.args.s.now g.row.B is.bytes long (g.row.B - c.args.self.total % g.row.B) refl
     c.copy.ensures c.if-n-need.true
 
 pub returns : goal.returns
@@ -20,5 +21,6 @@ returns g c =
     let h = held g.W.Word.number c.args.self in
     let pos : 0 < block_bytes p = omega (arith, g.met.W.Word.laws.least) in
     let long : length c.args.self.buffer ≡ g.row.B = search rules in
-    absorbed_many p pos h c.args.s.now g.row.B c.requires.block long (g.row.B - c.args.self.total % g.row.B) refl
-    c.copy.ensures _ c.if-n-need.false c.blocks-c.ensures c.blocks-d.ensures refl c.copy-2.ensures
+    let is = g.met.W.Algorithm.sizes in
+    absorbed_many p pos h c.args.s.now g.row.B is.bytes long (g.row.B - c.args.self.total % g.row.B) refl
+    c.copy.ensures _ c.if-n-need.false c.hash_blocks-c.ensures c.hash_blocks-d.ensures refl c.copy-2.ensures
