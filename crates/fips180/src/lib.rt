@@ -2,7 +2,7 @@
 // (specs/Hashing, specs/Feeds), the laws over the width (proofs/Laws), and the code, generic over the word.
 //
 // The crates sha256 and sha512 are this code at u32 and u64: each word has its `Algorithm` here, with its sizes and its
-// constants.
+// constants. The two traits stay in this crate, since reading a word of a block requires that it is there.
 #![tactic(auto)]
 
 mod algorithm;
@@ -12,7 +12,5 @@ mod state;
 mod tables;
 mod word;
 
-pub use algorithm::Algorithm;
 pub use rounds::Working;
 pub use state::{Fed, State};
-pub use word::Word;
