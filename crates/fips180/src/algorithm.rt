@@ -29,7 +29,9 @@ impl Algorithm<64, 128, 32> for u32 {
     fn hash_blocks(h: Working<u32>, s: &[u8]) -> Working<u32>
         ensures { words_of (λ x. x) result ≡ fips180.hash_blocks fips180.sha256 (words_of (λ x. x) h) (fips180.parse fips180.sha256 s.now) }
     {
-        blocks(h, s, &tables::K256)
+        // A copy, since where the constants' place is known, each reading of one computes it anew.
+        let k = tables::K256;
+        blocks(h, s, &k)
     }
 }
 
@@ -40,6 +42,7 @@ impl Algorithm<128, 256, 64> for u64 {
     fn hash_blocks(h: Working<u64>, s: &[u8]) -> Working<u64>
         ensures { words_of (λ x. x) result ≡ fips180.hash_blocks fips180.sha512 (words_of (λ x. x) h) (fips180.parse fips180.sha512 s.now) }
     {
+        // No copy: its 640 bytes would cost a message of one block 3 % and save a long one 0.5 %.
         blocks(h, s, &tables::K512)
     }
 }
