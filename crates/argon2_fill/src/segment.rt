@@ -44,6 +44,10 @@ impl Filling {
             ≡ rfc9106.segment (rfc9106.chooser (figures self.f)) (figures self.f) pass slice lane memory.old }
     {
         let first = given(pass, slice);
+        // Where all its blocks are given, no block of addresses is made.
+        if self.f.segment <= first {
+            return;
+        }
         for n in 0..self.f.segment.div_ceil(128) {
             let start = n * 128;
             let p = Position {

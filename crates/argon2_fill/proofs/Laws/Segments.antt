@@ -2,15 +2,16 @@
 --
 -- In order:
 --   length-fill_block .. length-passes    as long as it was
---   fill_from_none, fill_from_more                    no block yet, one block more
+--   fill_from_none, fill_from_more, fill_from_join    no block yet, one block more, and a stretch behind a stretch
 --   segments_more, slices_more, passes_more    one more
---   begun-placed                          positions of a segment
+--   begun-placed, begun_again             positions of a segment
 --   given_le, given_free                  where a segment begins
 --   segment_open, segment_is              the blocks that it fills, and all of them
 -- Assumes nothing.
 use mathlib.Core.Path.{◌≡◌, refl, sym, ap, ◌∙◌}
 use mathlib.Core.List.{List}
 use Prim.Native.Nat.{ℕ, zero, suc, ◌+◌, ◌-◌, ◌*◌, ◌≤◌, ◌<◌}
+use native.Mathlib.Nat.{add_assoc, add-zero, add-suc}
 use native.Mathlib.Numerals.{add-one}
 use native.Mathlib.Omega.{arith}
 use lib.Dec.{eqb, ltb}
@@ -69,6 +70,27 @@ module _ (choose : List ℕ → Position → ℕ) (f : Figures) where
       ∙ ap (λ (j : ℕ). fill_block choose f (at p j) (fill_from choose f p (i - p.index) m)) (sym a)
       ∙ ap (λ (j : ℕ). fill_from choose f p j m) (sym b)
 
+  fill_from-add : (p : Position) (a b : ℕ) (m : List ℕ)
+      → fill_from choose f (at p (p.index + a)) b (fill_from choose f p a m) ≡ fill_from choose f p (a + b) m
+  unfolding fill_from
+  fill_from-add p a zero m = ap (λ (j : ℕ). fill_from choose f p j m) (sym (add-zero a))
+  fill_from-add p a (suc b) m =
+      ap (fill_block choose f (at p (p.index + a + b))) (fill_from-add p a b m)
+      ∙ ap (λ (j : ℕ). fill_block choose f (at p j) (fill_from choose f p (a + b) m)) (add_assoc p.index a b)
+      ∙ ap (λ (j : ℕ). fill_from choose f p j m) (sym (add-suc a b))
+
+  -- a stretch from the index i to the index j
+  pub fill_from_join : (p : Position) (i j : ℕ) (m x y : List ℕ) → p.index ≤ i → i ≤ j
+      → x ≡ fill_from choose f p (i - p.index) m → y ≡ fill_from choose f (at p i) (j - i) x
+      → y ≡ fill_from choose f p (j - p.index) m
+  fill_from_join p i j m x y h k e g =
+      let a : p.index + (i - p.index) ≡ i = omega arith in
+      let b : i - p.index + (j - i) ≡ j - p.index = omega arith in
+      g ∙ ap (fill_from choose f (at p i) (j - i)) e
+      ∙ ap (λ (n : ℕ). fill_from choose f (at p n) (j - i) (fill_from choose f p (i - p.index) m)) (sym a)
+      ∙ fill_from-add p (i - p.index) (j - i) m
+      ∙ ap (λ (n : ℕ). fill_from choose f p n m) b
+
   pub segments_more : (r sl l : ℕ) (m x y : List ℕ) → x ≡ segments choose f r sl l m
       → y ≡ segment choose f r sl l x → y ≡ segments choose f r sl (l + 1) m
   unfolding segments
@@ -86,6 +108,11 @@ module _ (choose : List ℕ → Position → ℕ) (f : Figures) where
 
 pub begun-placed : (f : Figures) (p : Position) (i : ℕ) → Begun f p → i < f.segment → Placed f (at p i)
 begun-placed f p i b h = record { fits = b.fits; slice = b.slice; lane = b.lane; index = h }
+
+pub begun_again : (f : Figures) (p : Position) (i : ℕ) → Begun f p → p.index ≤ i → i ≤ f.segment → Begun f (at p i)
+begun_again f p i b h k =
+    let o = b.free in
+    record { fits = b.fits; slice = b.slice; lane = b.lane; index = k; free = omega arith }
 
 pub given_le : (r sl : ℕ) → given r sl ≤ 2
 unfolding given

@@ -1,6 +1,6 @@
 -- `argon2_fill::segment::Filling::fill_segment` meets its contract. The invariants: the blocks before a place are filled.
 -- Assumes nothing.
-use mathlib.Core.Path.{◌≡◌, ap, ◌∙◌}
+use mathlib.Core.Path.{◌≡◌, refl, ap, ◌∙◌}
 use Prim.Native.Nat.{ℕ, ◌+◌, ◌-◌, ◌*◌, ◌≤◌, min, max}
 use native.Mathlib.Omega.{arith}
 use Rattle.argon2_fill.specs.Rfc9106.{Position, chooser, fill_from}
@@ -8,6 +8,15 @@ use Rattle.argon2_fill.specs.State.{figures}
 use Rattle.argon2_fill.proofs.Laws.Segments.{fill_from_none, fill_from_more, given_le, segment_open, segment_is}
 use Rattle.argon2_fill.proofs.Laws.Chooser.{addresses_same}
 use Rattle.argon2_fill.proofs.segment.Filling.fill_segment.Goals as goal
+
+pub returns-then-self-first : goal.returns-then-self-first
+returns-then-self-first c =
+    let a = c.args in
+    let f = figures a.self.f in
+    let p : Position = record { pass = a.pass; slice = a.slice; lane = a.lane; index = c.given-first.result } in
+    let z : a.self.f.segment - c.given-first.result ≡ c.given-first.result - c.given-first.result = omega arith in
+    segment_is (chooser f) f a.pass a.slice a.lane _ a.self.f.segment a.memory.now a.memory.now c.given-first.ensures refl
+    (rw z (fill_from_none (chooser f) f p a.memory.now))
 
 pub loop-n-init : goal.loop-n-init
 loop-n-init c =
