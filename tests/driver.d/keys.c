@@ -9,9 +9,10 @@ typedef struct {
     uint8_t given;
 } credential;
 
+/* Beside the flag of one that is absent 32 bytes are lent, which the library is not to look at. */
 static credential asked_credential(request *q, const char *name) {
     const json_value *asked = field_find(q->asked, name);
-    if (!asked) return (credential){lend_input(q, (slice){NULL, 0}, 0), 0};
+    if (!asked) return (credential){lend_input(q, (slice){NULL, 0}, 32), 0};
     return (credential){value_bytes(q, asked, name), 1};
 }
 
