@@ -28,9 +28,14 @@ fn random_block(rt: &impl Print, state: u64) -> io::Result<u64> {
 }
 
 // One block, encrypted again and again.
-pub fn repeated_blocks(rt: &(impl Print + AllocGlobal)) -> io::Result<()> {
-    for n in [0, 1, 2, 1_000, 65_537] {
-        let form = format!(in rt.alloc(); "repeated-{n}")?;
+pub fn repeated_blocks(rt: &impl Print) -> io::Result<()> {
+    for (form, n) in [
+        ("repeated-0", 0),
+        ("repeated-1", 1),
+        ("repeated-2", 2),
+        ("repeated-1000", 1_000),
+        ("repeated-65537", 65_537),
+    ] {
         repeated(rt, form.as_bytes(), n)?;
     }
     Ok(())

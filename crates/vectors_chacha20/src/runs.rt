@@ -22,21 +22,23 @@ fn forms(rt: &impl Print, out: &mut [u8]) -> io::Result<()> {
 }
 
 // A message at positions around a block's border, and deep in the stream, the last two before the end of the counter.
-pub fn positions(rt: &(impl Print + AllocGlobal), out: &mut [u8]) -> io::Result<()> {
-    for at in [
-        1,
-        63,
-        64,
-        65,
-        16_383,
-        4_194_303,
-        274_877_906_844,
-        18_446_744_073_709_551_516,
+pub fn positions(rt: &impl Print, out: &mut [u8]) -> io::Result<()> {
+    for (form, form_parts, at) in [
+        ("at1", "at1-parts", 1),
+        ("at63", "at63-parts", 63),
+        ("at64", "at64-parts", 64),
+        ("at65", "at65-parts", 65),
+        ("at16383", "at16383-parts", 16_383),
+        ("at4194303", "at4194303-parts", 4_194_303),
+        ("at274877906844", "at274877906844-parts", 274_877_906_844),
+        (
+            "at18446744073709551516",
+            "at18446744073709551516-parts",
+            18_446_744_073_709_551_516,
+        ),
     ] {
-        let form = format!(in rt.alloc(); "at{at}")?;
         whole(rt, form.as_bytes(), at, out)?;
-        let form = format!(in rt.alloc(); "at{at}-parts")?;
-        parts(rt, form.as_bytes(), at, out)?;
+        parts(rt, form_parts.as_bytes(), at, out)?;
     }
     Ok(())
 }

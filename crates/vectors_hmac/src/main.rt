@@ -86,25 +86,42 @@ fn long_keys(rt: &impl Print) -> io::Result<()> {
 }
 
 // Keys around a block's length: the bytes of the pattern from 1,000 on.
-fn keys(rt: &(impl Print + AllocGlobal), m: &[u8]) -> io::Result<()> {
-    for n in [0, 1, 63, 64, 65, 131] {
-        let form = format!(in rt.alloc(); "key{n}")?;
-        lengths(rt, &form, first(after(m, 1_000), n), m)?;
+fn keys(rt: &impl Print, m: &[u8]) -> io::Result<()> {
+    for (form, form_parts, n) in [
+        ("key0", "key0-parts", 0),
+        ("key1", "key1-parts", 1),
+        ("key63", "key63-parts", 63),
+        ("key64", "key64-parts", 64),
+        ("key65", "key65-parts", 65),
+        ("key131", "key131-parts", 131),
+    ] {
+        lengths(rt, form, form_parts, first(after(m, 1_000), n), m)?;
     }
     Ok(())
 }
 
 // The messages of up to 130 bytes, and three longer ones.
-fn lengths(rt: &(impl Print + AllocGlobal), form: &str, key: &[u8], m: &[u8]) -> io::Result<()> {
+fn lengths(
+    rt: &impl Print,
+    form: &str,
+    form_parts: &str,
+    key: &[u8],
+    m: &[u8],
+) -> io::Result<()> {
     for n in (0..131).chain([4_095, 65_537, m.len()]) {
-        both(rt, form, key, first(m, n))?;
+        both(rt, form, form_parts, key, first(m, n))?;
     }
     Ok(())
 }
 
 // A message in one call and in parts.
-fn both(rt: &(impl Print + AllocGlobal), form: &str, key: &[u8], m: &[u8]) -> io::Result<()> {
-    let form_parts = format!(in rt.alloc(); "{form}-parts")?;
+fn both(
+    rt: &impl Print,
+    form: &str,
+    form_parts: &str,
+    key: &[u8],
+    m: &[u8],
+) -> io::Result<()> {
     let first = m.len() % 7 + 1;
     whole(rt, form.as_bytes(), key, m, 32)?;
     in_parts(
