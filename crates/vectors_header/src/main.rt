@@ -16,20 +16,22 @@ const LONGEST: usize = 65_537;
 
 fn main(rt: HostRuntime) -> io::Result<()> {
     let cases = table::read(&rt, 262_144)?;
+    // Room for any text (crate listing, Laws.Text, length-text), made once: filling it costs more than a listing.
+    let mut text = vec![in rt.alloc(); 0u8; 196_608]?;
     for line in Lines::of(&cases) {
-        answer(&rt, line)?;
+        answer(&rt, line, &mut text)?;
     }
     Ok(())
 }
 
 // The answer to a line, by whether it has a name to look up.
-fn answer(rt: &(impl Print + AllocGlobal), line: &[u8]) -> io::Result<()> {
+fn answer(rt: &(impl Print + AllocGlobal), line: &[u8], text: &mut [u8]) -> io::Result<()> {
     rt.write_all(field(line, 0))?;
     rt.write_all(b"\n")?;
     if is_given(field(line, 3)) {
         looked(rt, line)
     } else {
-        listed(rt, line)
+        listed(rt, line, text)
     }
 }
 
@@ -57,13 +59,12 @@ fn looked(rt: &(impl Print + AllocGlobal), line: &[u8]) -> io::Result<()> {
     }
 }
 
-// The listing of a line's file, with room for any text (crate listing, Laws.Text, length-text).
-fn listed(rt: &(impl Print + AllocGlobal), line: &[u8]) -> io::Result<()> {
+// The listing of a line's file, in lent room.
+fn listed(rt: &(impl Print + AllocGlobal), line: &[u8], text: &mut [u8]) -> io::Result<()> {
     let mut file = decoded(rt.alloc(), field(line, 1), LONGEST)?;
     file.resize((number(field(line, 2)) as usize).min(LONGEST), 0)?;
-    let mut text = vec![in rt.alloc(); 0u8; 196_608]?;
-    match listing::list(&file, &mut text) {
-        Ok(n) => rt.write_all(first(&text, n)),
+    match listing::list(&file, text) {
+        Ok(n) => rt.write_all(first(text, n)),
         Err(_) => rt.write_all(b"no room\n"),
     }
 }
