@@ -101,13 +101,7 @@ fn keys(rt: &impl Print, m: &[u8]) -> io::Result<()> {
 }
 
 // The messages of up to 130 bytes, and three longer ones.
-fn lengths(
-    rt: &impl Print,
-    form: &str,
-    form_parts: &str,
-    key: &[u8],
-    m: &[u8],
-) -> io::Result<()> {
+fn lengths(rt: &impl Print, form: &str, form_parts: &str, key: &[u8], m: &[u8]) -> io::Result<()> {
     for n in (0..131).chain([4_095, 65_537, m.len()]) {
         both(rt, form, form_parts, key, first(m, n))?;
     }
@@ -115,13 +109,7 @@ fn lengths(
 }
 
 // A message in one call and in parts.
-fn both(
-    rt: &impl Print,
-    form: &str,
-    form_parts: &str,
-    key: &[u8],
-    m: &[u8],
-) -> io::Result<()> {
+fn both(rt: &impl Print, form: &str, form_parts: &str, key: &[u8], m: &[u8]) -> io::Result<()> {
     let first = m.len() % 7 + 1;
     whole(rt, form.as_bytes(), key, m, 32)?;
     in_parts(
