@@ -5,3 +5,4 @@ pub mod Feeds
 pub mod Working
 pub mod State
 pub mod Blocked
+pub mod Lent

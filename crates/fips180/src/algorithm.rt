@@ -9,6 +9,7 @@ ghost use Rattle.fips180.specs.Fips180 as fips180;
 ghost use Rattle.fips180.specs.Working.{words as words_of};
 
 use crate::block::blocks;
+use crate::reading::Straight;
 use crate::rounds::Working;
 use crate::tables;
 use crate::word::Word;
@@ -31,7 +32,7 @@ impl Algorithm<64, 128, 32> for u32 {
     {
         // A copy, since where the constants' place is known, each reading of one computes it anew.
         let k = tables::K256;
-        blocks(h, s, &k)
+        blocks::<u32, Straight, 64>(h, s, &k)
     }
 }
 
@@ -43,6 +44,6 @@ impl Algorithm<128, 256, 64> for u64 {
         ensures { words_of (λ x. x) result ≡ fips180.hash_blocks fips180.sha512 (words_of (λ x. x) h) (fips180.parse fips180.sha512 s.now) }
     {
         // No copy: its 640 bytes would cost a message of one block 3 % and save a long one 0.5 %.
-        blocks(h, s, &tables::K512)
+        blocks::<u64, Straight, 80>(h, s, &tables::K512)
     }
 }

@@ -3,19 +3,22 @@
 // The constants are lent, since a constant that is read at an index is copied whole at each reading.
 ghost use Rattle.std.specs.Prelude.{◌≡◌, ◌-◌, ◌≤◌, length, map, take};
 ghost use Rattle.fips180.specs.Fips180 as fips180;
+ghost use Rattle.fips180.specs.Lent as lent;
+ghost use Rattle.fips180.specs.Lent.{lending, Suits};
 ghost use Rattle.fips180.specs.Working.{words as words_of};
 
+use crate::reading::Reading;
 use crate::rounds::Working;
 use crate::word::Word;
 
 // Step 1: the sixteen words of a block.
-fn load<W: Word>(w: &mut [W], block: &[u8])
+fn load<W: Word, R: Reading<W>>(w: &mut [W], block: &[u8])
     requires w_len { 16 ≤ length w.old }
     requires in_bounds { fips180.block_bytes W.sha2 ≤ length block.now }
     ensures { take 16 (map W.number w.new) ≡ fips180.block_words W.sha2 16 block.now }
 {
     for i in 0..16 {
-        w[i] = W::read(block, i);
+        w[i] = R::word(block, i);
     }
 }
 
@@ -30,13 +33,18 @@ fn extend<W: Word>(w: &mut [W])
 }
 
 // The hash value after a block.
-fn compress<W: Word, const N: usize>(h: Working<W>, block: &[u8], k: &[W; N]) -> Working<W>
+fn compress<W: Word, R: Reading<W>, const N: usize>(
+    h: Working<W>,
+    block: &[u8],
+    k: &[W; N],
+) -> Working<W>
     requires in_bounds { fips180.block_bytes W.sha2 ≤ length block.now }
-    requires k_value { map W.number k.now ≡ W.sha2.constants }
-    ensures { words_of W.number result ≡ fips180.compress W.sha2 (words_of W.number h) block.now }
+    requires suits { Suits (map W.number k.now) }
+    ensures { words_of W.number result
+        ≡ fips180.compress (lending (map W.number k.now) W.sha2) (words_of W.number h) block.now }
 {
     let mut w = [W::ZERO; N];
-    load(&mut w, block);
+    load::<W, R>(&mut w, block);
     extend(&mut w);
     let t = crate::rounds::rounds(h, &w, k);
     Working {
@@ -52,13 +60,18 @@ fn compress<W: Word, const N: usize>(h: Working<W>, block: &[u8], k: &[W; N]) ->
 }
 
 // The hash value after every whole block of `s`.
-pub(crate) fn blocks<W: Word, const N: usize>(h: Working<W>, s: &[u8], k: &[W; N]) -> Working<W>
-    requires { map W.number k.now ≡ W.sha2.constants }
-    ensures { words_of W.number result ≡ fips180.hash_blocks W.sha2 (words_of W.number h) (fips180.parse W.sha2 s.now) }
+pub(crate) fn blocks<W: Word, R: Reading<W>, const N: usize>(
+    h: Working<W>,
+    s: &[u8],
+    k: &[W; N],
+) -> Working<W>
+    requires { Suits (map W.number k.now) }
+    ensures { words_of W.number result
+        ≡ lent.hash_blocks (map W.number k.now) W.sha2 (words_of W.number h) s.now }
 {
     let mut c = h;
     for block in s.chunks_exact(W::BLOCK) {
-        c = compress(c, block, k);
+        c = compress::<W, R, N>(c, block, k);
     }
     c
 }

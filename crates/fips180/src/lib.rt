@@ -2,11 +2,14 @@
 // (specs/Hashing, specs/Feeds), the laws over the width (proofs/Laws), and the code, generic over the word.
 //
 // The crates sha256 and sha512 are this code at u32 and u64: each word has its `Algorithm` here, with its sizes and its
-// constants. The two traits stay in this crate, since reading a word of a block requires that it is there.
+// constants. Another crate may lend constants, and bring a `Word` of its own. The reading of a word that is known to be
+// there stays in this crate, since it requires that.
 #![tactic(auto)]
 
 mod algorithm;
 mod block;
+mod constants;
+mod reading;
 mod rounds;
 mod state;
 mod tables;
@@ -14,3 +17,7 @@ mod word;
 
 pub use rounds::Working;
 pub use state::{Fed, State};
+pub use word::Word;
+
+#[cfg(test)]
+mod tests;

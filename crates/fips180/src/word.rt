@@ -9,14 +9,6 @@ ghost use Rattle.fips180.specs.Blocked.{IsBlocked, sha256_is_blocked, sha512_is_
 
 use words::{plus32, plus64};
 
-// The number of four bytes at a place. (`words::be::u32_at` would test the length for each word.)
-fn half_at(s: &[u8], at: usize) -> u32
-    requires { at + 4 ≤ length s.now }
-    ensures { result ≡ be 4 s.now at }
-{
-    words::be::u32_of(s[at], s[at + 1], s[at + 2], s[at + 3])
-}
-
 // A word of one of the two algorithms.
 pub trait Word: Copy {
     // The algorithm.
@@ -32,10 +24,9 @@ pub trait Word: Copy {
 
     ghost BLOCK: { ℕ };
 
-    // The word of a block at a place among its words.
+    // The word at a place among the words of a block. Where the block does not have it whole, any word.
     fn read(block: &[u8], i: usize) -> Self
-        requires { i * sha2.bytes + sha2.bytes ≤ length block.now }
-        ensures { number result ≡ be sha2.bytes block.now (i * sha2.bytes) };
+        ensures { i * sha2.bytes + sha2.bytes ≤ length block.now → number result ≡ be sha2.bytes block.now (i * sha2.bytes) };
 
     // The bytes of a word, written over the front of `out`.
     fn write(self, out: &mut [u8])
@@ -85,8 +76,11 @@ impl Word for u32 {
 
     ghost laws = { sha256_is_blocked };
 
-    fn read(block: &[u8], i: usize) -> u32 {
-        half_at(block, i * 4)
+    // A byte behind the end counts as zero.
+    fn read(block: &[u8], i: usize) -> u32
+        ensures { result ≡ be 4 block.now (i * 4) }
+    {
+        words::be::u32_at(block, i.saturating_mul(4))
     }
 
     fn write(self, out: &mut [u8]) {
@@ -135,9 +129,11 @@ impl Word for u64 {
 
     ghost laws = { sha512_is_blocked };
 
-    // In two halves, each of which compiles to one load.
-    fn read(block: &[u8], i: usize) -> u64 {
-        (half_at(block, i * 8) as u64) * 0x1_0000_0000 + (half_at(block, i * 8 + 4) as u64)
+    // A byte behind the end counts as zero.
+    fn read(block: &[u8], i: usize) -> u64
+        ensures { result ≡ be 8 block.now (i * 8) }
+    {
+        words::be::u64_at(block, i.saturating_mul(8))
     }
 
     fn write(self, out: &mut [u8]) {

@@ -79,7 +79,7 @@ impl Sha256 {
     pub fn feed_to(self, s: &[u8], limit: u32) -> Fed
         ensures { result ≡ state.fed_to limit self s.now }
     {
-        let fed = self.state().feed_to::<128, 32>(s, limit);
+        let fed = self.state().feed_standard::<128, 32>(s, limit);
         Fed {
             outcome: fed.outcome,
             next: Sha256::of(fed.next),
@@ -97,7 +97,7 @@ impl Sha256 {
     pub fn finish(self) -> [u8; 32]
         ensures { result ≡ state.finished self }
     {
-        self.state().finish::<128, 32>()
+        self.state().finish_standard::<128, 32>()
     }
 }
 

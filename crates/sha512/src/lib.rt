@@ -79,7 +79,7 @@ impl Sha512 {
     pub fn feed_to(self, s: &[u8], limit: u32) -> Fed
         ensures { result ≡ state.fed_to limit self s.now }
     {
-        let fed = self.state().feed_to::<256, 64>(s, limit);
+        let fed = self.state().feed_standard::<256, 64>(s, limit);
         Fed {
             outcome: fed.outcome,
             next: Sha512::of(fed.next),
@@ -97,7 +97,7 @@ impl Sha512 {
     pub fn finish(self) -> [u8; 64]
         ensures { result ≡ state.finished self }
     {
-        self.state().finish::<256, 64>()
+        self.state().finish_standard::<256, 64>()
     }
 }
 

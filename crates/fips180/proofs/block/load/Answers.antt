@@ -14,5 +14,5 @@ loop-i-preserved g c =
     let l = c.loop-i in
     let n = g.W.Word.number in (
       simp length-set l.invariant.0,
-      block_words_read n l.w g.W.Word.sha2 l.i c.read.result (omega arith) c.args.block.now l.invariant.1 c.read.ensures,
+      block_words_read n l.w g.W.Word.sha2 l.i c.word.result (omega arith) c.args.block.now l.invariant.1 c.word.ensures,
     )

@@ -5,4 +5,4 @@ use Rattle.fips180.specs.Hashing as hashing
 use Rattle.sha256.proofs.Sha256.finish.Goals as goal
 
 pub returns : goal.returns
-returns c = c.finish.ensures ∙ ap (hashing.finish sha256) c.state.ensures
+returns c = c.finish_standard.ensures ∙ ap (hashing.finish sha256) c.state.ensures

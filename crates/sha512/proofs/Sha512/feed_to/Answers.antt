@@ -12,6 +12,6 @@ kept f = record { outcome = f.outcome; next = stored f.next }
 
 pub returns : goal.returns
 returns c =
-    ap (λ (h : Hashing). record { outcome = c.feed_to-fed.result.outcome; next = stored h }) c.of.ensures
-    ∙ ap kept (c.feed_to-fed.ensures
+    ap (λ (h : Hashing). record { outcome = c.feed_standard-fed.result.outcome; next = stored h }) c.of.ensures
+    ∙ ap kept (c.feed_standard-fed.ensures
     ∙ ap (λ (h : Hashing). hashing.feed_to sha512 c.args.limit h c.args.s.now) c.state.ensures)

@@ -5,4 +5,4 @@ use Rattle.fips180.specs.Hashing as hashing
 use Rattle.sha512.proofs.Sha512.finish.Goals as goal
 
 pub returns : goal.returns
-returns c = c.finish.ensures ∙ ap (hashing.finish sha512) c.state.ensures
+returns c = c.finish_standard.ensures ∙ ap (hashing.finish sha512) c.state.ensures
