@@ -1,5 +1,5 @@
 // How the words of a block are read: straight from bytes that are known to be there, or by the word's own `read`, which
-// answers for any bytes. (The first compiles to one load a word. The second, at u64, does not.)
+// answers for any bytes. (Straight, a word of either algorithm is one load; u64's own `read` is more instructions.)
 ghost use Rattle.std.specs.Prelude.{◌≡◌, ◌+◌, ◌*◌, ◌≤◌, length};
 ghost use Rattle.words.specs.Endian.{be};
 

@@ -1,6 +1,6 @@
-// What no contract says: that constants lent give the digests of the standard's examples, through the bound `Word` as
-// another crate calls it, also with a word of its own. SHA-224 and SHA-384 are SHA-256 and SHA-512 from other initial hash values, with a shorter
-// digest (FIPS 180-4, 5.3.2, 5.3.4, 6.3 and 6.5); their digests of "abc" are those of the standard's example pages.
+// Digests and words from outside: by what a caller in another crate may name but for the tables, also with a word of its
+// own. SHA-224 and SHA-384 are SHA-256 and SHA-512 from other initial hash values, with a shorter digest (FIPS 180-4,
+// 5.3.2, 5.3.4, 6.3 and 6.5); their digests of "abc" are those of the standard's example pages.
 ghost use Rattle.fips180.specs.Fips180 as fips180;
 ghost use Rattle.fips180.specs.Blocked.{sha256_is_blocked};
 
@@ -176,6 +176,24 @@ fn sizes_that_do_not_fit(rt: HostRuntime) {
     assert!(rt;
         start::<u32, 64>(IV224).feed_to(b"abc", 1024, &few).outcome == Err(Refusal::TooLong)
     );
+}
+
+#[test]
+fn functions_of_a_word(rt: HostRuntime) {
+    let x: u32 = 1;
+    assert_eq!(rt; x.big_sigma0(), 0x4008_0400);
+    assert_eq!(rt; x.big_sigma1(), 0x0420_0080);
+    assert_eq!(rt; x.small_sigma0(), 0x0200_4000);
+    assert_eq!(rt; x.small_sigma1(), 0x0000_a000);
+    let (y, z) = (0x1234_5678, 0x9abc_def0);
+    let halves: u32 = 0xff00_ff00;
+    assert_eq!(rt; halves.ch(y, z), 0x12bc_56f0);
+    assert_eq!(rt; halves.maj(y, z), 0x9a34_de70);
+    assert_eq!(rt; y.plus(0xffff_ffff), 0x1234_5677);
+    let mut out = [9u8; 5];
+    y.write(&mut out);
+    assert_eq!(rt; out, [0x12, 0x34, 0x56, 0x78, 9]);
+    assert_eq!(rt; Working::of(IV224).words(), IV224);
 }
 
 #[test]
